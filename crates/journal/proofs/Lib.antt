@@ -1,0 +1,5 @@
+pub mod Bytes
+pub mod Pushes
+pub mod Rows
+pub mod Sizes
+pub mod Taking

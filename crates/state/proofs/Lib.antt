@@ -1,0 +1,4 @@
+pub mod Calls
+pub mod Checked
+pub mod Cuts
+pub mod Sums
