@@ -1,0 +1,6 @@
+pub mod Assembling
+pub mod Contents
+pub mod Marks
+pub mod Offers
+pub mod Reading
+pub mod Taking
