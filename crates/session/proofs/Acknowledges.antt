@@ -33,21 +33,12 @@ use Rattle.endpoint.proofs.Takes.{take-refused, TakeLeaves, take-leaves, settle
 use Rattle.endpoint.proofs.Halves.{HalfOf, own-refused, reads-instruction}
 use Rattle.session.specs.History.{Past, opposite, pieceRead, pieceIn, ackIn, completed, afterTake}
 use Rattle.session.specs.Runs.{Lent, lentTo, takes, takenTo, Among}
+use Rattle.session.proofs.Shared.{among-turned, opposite-other}
 use Rattle.session.proofs.Invariant.{state, Instructs, Carries, Gathers, Holds, Joined}
-
--- what is among datagrams is so whatever the kinds
-pub among-other : (K L : Kind) (d : List ℕ) (ds : List (List ℕ)) → Among K L d ds → Among L K d ds
-among-other K L d [] a = a
-among-other K L d (e ∷ ds) (inl p) = inl p
-among-other K L d (e ∷ ds) (inr a) = inr (among-other K L d ds a)
 
 pub same-itself : (d : Direction) → sameDirection d d ≡ true
 same-itself TowardDepot = refl
 same-itself TowardReader = refl
-
-pub other-way : (d e : Direction) → e ≡ opposite d → sameDirection d e ≡ false
-other-way TowardDepot e p = ap (sameDirection TowardDepot) p
-other-way TowardReader e p = ap (sameDirection TowardReader) p
 
 -- what is half made is pieces of one of the sendings
 pub half-of : (c : Contents) (sent : ℕ) (instruction : ℕ → List ℕ) → ((s : ℕ) → collects c s ≡ true → (s ≤ sent) × ((has : ℕ → Bool) × (heldOf c s ≡ gathered s (instruction s) has))) → HalfOf sent instruction c
@@ -82,10 +73,10 @@ module _ (K L : Kind) (x : Holding K L) (p : Past K) (y : Holding L K) (q : Past
 
   pub arrives : Among K L bytes (q .written) → Arrives
   arrives a =
-      let c = back .air bytes (among-other K L bytes (q .written) a) in
+      let c = back .air bytes (among-turned K L bytes (q .written) a) in
       let short = sending-short L K y q x p back (c .sending) (c .some) (c .past) in
       let reads : readDatagram (x .end .direction) bytes ≡ Ok (parcel (y .end .direction) (c .from) (c .sending) (q .instruction (c .sending)) (c .piece)) =
-      ap (readDatagram (x .end .direction)) (c .is) ∙ datagram-read (y .end .direction) (c .from) (c .sending) (q .instruction (c .sending)) (x .end .direction) (c .piece) (other-way (y .end .direction) (x .end .direction) (back .directions)) (short .1) (c .one-of) in
+      ap (readDatagram (x .end .direction)) (c .is) ∙ datagram-read (y .end .direction) (c .from) (c .sending) (q .instruction (c .sending)) (x .end .direction) (c .piece) (opposite-other (y .end .direction) (x .end .direction) (back .directions)) (short .1) (c .one-of) in
       record {
         sending = c .sending;
         number = c .piece;

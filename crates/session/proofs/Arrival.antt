@@ -39,23 +39,8 @@ use Rattle.session.specs.History as history
 use Rattle.session.specs.History.{Past, opposite}
 use Rattle.session.specs.Runs.{World, Call, change, tick, take, look, Step, first, second, step, SupposedOf, Among, flipped}
 use Rattle.session.specs.Law.{Takes, none, looks, takes, IsLook, own}
+use Rattle.session.proofs.Shared.{among-turned, look-stays, opposite-other}
 use Rattle.session.proofs.Invariant.{state, Inv, Joined, Instructs, Holds}
-
--- a look leaves all as it was
-pub look-stays : {K L : Kind} (w : World K L) (c : Step K L) → IsLook c → step K L w c ≡ w
-look-stays w (first (change t)) l = absurd l
-look-stays w (first (tick n time out)) l = absurd l
-look-stays w (first (take n time bytes)) l = absurd l
-look-stays w (first (look n)) l = refl
-look-stays w (second (change t)) l = absurd l
-look-stays w (second (tick n time out)) l = absurd l
-look-stays w (second (take n time bytes)) l = absurd l
-look-stays w (second (look n)) l = refl
-
--- bytes are among datagrams whatever kinds the ends send
-pub among-turned : (K L : Kind) (d : List ℕ) (ds : List (List ℕ)) → Among K L d ds → Among L K d ds
-among-turned K L d [] a = a
-among-turned K L d (x ∷ xs) a = ⊎-elim (λ (e : d ≡ x). inl e) (λ (m : Among K L d xs). inr (among-turned K L d xs m)) a
 
 -- what a take leaves of a history
 pub record Remains {K : Kind} (p q : Past K) : Type 0 where
@@ -71,14 +56,6 @@ take-remains p time bs (Ok (Filled n)) = record { current = refl; fixed = refl; 
 take-remains p time bs (Ok (Again n)) = record { current = refl; fixed = refl; written = refl; instruction = refl }
 take-remains p time bs (Ok (Baseless n)) = record { current = refl; fixed = refl; written = refl; instruction = refl }
 take-remains p time bs (Err f) = record { current = refl; fixed = refl; written = refl; instruction = refl }
-
--- the opposite direction is another
-pub opposite-other : (d e : Direction) → e ≡ opposite d → sameDirection d e ≡ false
-opposite-other d e q = ap (sameDirection d) q ∙ other d
-  where
-    other : (a : Direction) → sameDirection a (opposite a) ≡ false
-    other TowardDepot = refl
-    other TowardReader = refl
 
 -- what takes of the second end leave
 pub record Rests (K L : Kind) (w v : World K L) : Type 0 where

@@ -14,6 +14,7 @@ use Rattle.endpoint.specs.End.{Holding, looked}
 use Rattle.session.specs.History.{Past}
 use Rattle.session.specs.Law.{Fits, Half, Exchange, UpToDate}
 use Rattle.session.specs.Runs.{World, flipped}
+use Rattle.session.proofs.Shared.{inv-flip}
 use Rattle.session.proofs.Invariant.{Inv, Joined, state, stateOf}
 use Rattle.session.proofs.Safety.{looks}
 
@@ -42,9 +43,6 @@ pub record Halfway (K L : Kind) (w v : World K L) : Type 0 where
   pub other-sent : v .two .end .sendings ≡ w .two .end .sendings
   pub acknowledged : w .one .end .newest ≤ v .two .end .sent .anchor
 
-flip-inv : (K L : Kind) (w : World K L) → Inv K L w → Inv L K (flipped w)
-flip-inv K L w i = record { forth = i .back; back = i .forth }
-
 -- an end that shows the other's last number, which is fixed as that state
 up-to-date : (K L : Kind) (w : World K L) (c : K .Contents) → Inv K L w → w .two .end .newest ≡ w .one .end .top → w .pastOne .fixed (w .one .end .top) ≡ Some c → (n : ℕ) × (looked L K (w .two .end) (w .two .receivedStore) ≡ Ok (n, c))
 up-to-date K L w c i shown is =
@@ -60,12 +58,12 @@ module _ (K L : Kind)
       let w₁ = e .middle in
       let w₃ = e′ .middle in
       let a = half w w₁ (record { inv = i; fits = f₁; left = omega arith }) (e .forth) in
-      let b = half′ (flipped w₁) (flipped u) (record { inv = flip-inv K L w₁ (a .inv); fits = a .other-fits f₂; left = omega (arith, a .other-sent) }) (e .back) in
+      let b = half′ (flipped w₁) (flipped u) (record { inv = inv-flip K L w₁ (a .inv); fits = a .other-fits f₂; left = omega (arith, a .other-sent) }) (e .back) in
       let iu : Inv K L u = record { forth = b .inv .back; back = b .inv .forth } in
       let all₁ : u .one .end .top ≤ u .one .end .sent .anchor = omega (arith, b .acknowledged, b .other-top, a .shows) in
       let c = half u w₃ (record { inv = iu; fits = b .other-fits (a .fits); left = omega (arith, b .other-sent, a .sent) }) (e′ .forth) in
       let all₂ : w₃ .two .end .top ≤ w₃ .two .end .sent .anchor = omega (arith, c .acknowledged, c .other-top, b .shows) in
-      let d = half′ (flipped w₃) (flipped v) (record { inv = flip-inv K L w₃ (c .inv); fits = c .other-fits (b .fits); left = omega (arith, c .other-sent, b .sent, a .other-sent) }) (e′ .back) in
+      let d = half′ (flipped w₃) (flipped v) (record { inv = inv-flip K L w₃ (c .inv); fits = c .other-fits (b .fits); left = omega (arith, c .other-sent, b .sent, a .other-sent) }) (e′ .back) in
       let iv : Inv K L v = record { forth = d .inv .back; back = d .inv .forth } in
       let some : K .Contents → Option (K .Contents) = λ t. Some t in
       let some′ : L .Contents → Option (L .Contents) = λ t. Some t in

@@ -30,10 +30,10 @@ use Rattle.session.specs.History.{Past, opposite, afterTick}
 use Rattle.session.specs.Law.{Fits, Half, Takes, IsLook, own, wroteBy}
 use Rattle.session.specs.Law.Half.{looks, ticks}
 use Rattle.session.specs.Runs.{World, flipped, Among, tick, Step, first, second, step, SupposedOf}
+use Rattle.session.proofs.Shared.{look-stays}
 use Rattle.session.proofs.Invariant.{Inv, Joined, Instructs}
 use Rattle.session.proofs.Arrival.{Ready as Arriving, Rests, Final, rest-taken, datagramsFrom}
 use Rattle.session.proofs.Catching.{Ready, Halfway}
-use Rattle.session.proofs.Fitting.{look-same}
 use Rattle.session.proofs.Silence as silence
 use Rattle.session.proofs.Writes.{sentPast, wrote-is}
 
@@ -178,7 +178,7 @@ module _ (K L : Kind) (exact : Exact K) (itself : Itself K) (onward : Onward K) 
   by-half (looks w v c l h) r =
       let P : World K L → Type 0 = λ z. Ready K L z in
       let Q : World K L → Type 0 = λ z. Halfway K L z v in
-      subst Q (look-same K L w c l) (by-half h (subst P (sym (look-same K L w c l)) r))
+      subst Q (look-stays w c l) (by-half h (subst P (sym (look-stays w c l)) r))
   by-half (ticks w v time out late in-time room t) r = ticked-half w r time out late in-time room v t
 
   pub halved : (w v : World K L) → Ready K L w → Half K L w v → Halfway K L w v

@@ -9,6 +9,7 @@ use Rattle.endpoint.specs.declared.fault.TakeFault.{TakeFault}
 use Rattle.endpoint.specs.End.{Holding, changed}
 use Rattle.session.specs.History.{Past, opposite, pieceIn, afterChange, afterTick, afterTake}
 use Rattle.session.specs.Runs.{Lent, Call, change, tick, take, look, World, flipped, Among, changedTo, ticks, takes, tickedTo, takenTo, move, Supposed, Step, first, second, step, SupposedOf, run, SupposedAll}
+use Rattle.session.proofs.Shared.{inv-flip}
 use Rattle.session.proofs.Invariant.{Joined, Inv}
 use Rattle.session.proofs.Acknowledges.{take-sent}
 
@@ -31,10 +32,6 @@ pub record Keeps (K L : Kind) : Type 0 where
       (l : Lent) (time : ℕ) (bytes : List ℕ) →
       Among K L bytes (p .written) ⊎ (Among K L bytes (q .written) ⊎ ((f : TakeFault) × (takes K L x l time bytes .answer ≡ Err f))) →
       Joined L K y q (takenTo K L x l (takes K L x l time bytes)) (afterTake p time (q .instruction (pieceIn (x .end .direction) bytes .sending)) (takes K L x l time bytes .answer))
-
--- the same of the world with the second end as the first
-pub inv-flip : (K L : Kind) (w : World K L) → Inv K L w → Inv L K (flipped w)
-inv-flip K L w i = record { forth = i .back; back = i .forth }
 
 -- a call on the first end
 pub inv-move : (K L : Kind) → Keeps K L → (w : World K L) (c : Call K L) → Inv K L w → Supposed K L w c → Inv K L (move K L w c)

@@ -3,12 +3,12 @@ pub mod Arrival
 pub mod Calls
 pub mod Catching
 pub mod Changes
-pub mod Fitting
 pub mod Halving
 pub mod Invariant
 pub mod Kept
 pub mod Receives
 pub mod Safety
+pub mod Shared
 pub mod Silence
 pub mod Standing
 pub mod Whole

@@ -48,17 +48,8 @@ use Rattle.endpoint.proofs.Honest.{Honest, HeldTrue, land-true}
 use Rattle.endpoint.proofs.Halves.{own-refused}
 use Rattle.session.specs.History.{Past, opposite, ackIn, pieceIn, afterTake}
 use Rattle.session.specs.Runs.{Lent, handed, returned, lentTo, takes, takenTo, Among}
+use Rattle.session.proofs.Shared.{among-turned, opposite-apart}
 use Rattle.session.proofs.Invariant.{state, Instructs, Carries, Gathers, Holds, Acks, Joined}
-
--- whatever the kinds, the same bytes are among the same datagrams
-among-flip : (K L : Kind) (d : List ℕ) (ds : List (List ℕ)) → Among L K d ds → Among K L d ds
-among-flip K L d [] a = a
-among-flip K L d (e ∷ ds) a = ⊎-elim (λ q. inl q) (λ m. inr (among-flip K L d ds m)) a
-
--- the two directions
-opposite-apart : (d : Direction) → sameDirection d (opposite d) ≡ false
-opposite-apart TowardDepot = refl
-opposite-apart TowardReader = refl
 
 same-direction : (d : Direction) → sameDirection d d ≡ true
 same-direction TowardDepot = refl
@@ -358,6 +349,6 @@ module _ (K L : Kind) (reaches : Reaches K) (x : Holding K L) (p : Past K) (y : 
       ⊎-elim
       (λ m. ours (back .air bytes m))
       (⊎-elim
-      (λ m. theirs (forth .air bytes (among-flip K L bytes (p .written) m)))
+      (λ m. theirs (forth .air bytes (among-turned L K bytes (p .written) m)))
       (λ f. subst Goal (sym (take-refused L K (lentTo L K y l) time bytes (f .0) (f .1))) (refusal (f .0))))
       supposed

@@ -32,12 +32,8 @@ use Rattle.endpoint.proofs.Reaching.{late-old, late-sends}
 use Rattle.endpoint.proofs.Written.{datagramAt, sent-cut, contents-join}
 use Rattle.session.specs.History.{Past, opposite, pieceRead, pieceIn, instructionIn, newIn, orElse, wrote, afterTick}
 use Rattle.session.specs.Law.{Fits, TwoLeft, wroteBy}
+use Rattle.session.proofs.Shared.{opposite-apart}
 use Rattle.session.proofs.Invariant.{state, Joined}
-
--- the other direction is another
-other-way : (d : Direction) → sameDirection d (opposite d) ≡ false
-other-way TowardDepot = refl
-other-way TowardReader = refl
 
 module _ (K L : Kind) (x : Holding K L) (p : Past K) (y : Holding L K) (q : Past L) (j : Joined K L x p y q) where
   -- where two sendings are left, at most 999,998 were made
@@ -120,7 +116,7 @@ module _ (K L : Kind) (x : Holding K L) (p : Past K) (y : Holding L K) (q : Past
 
       -- each datagram is read at the other side as its piece
       piece-back : (k : ℕ) → k < pieceCount (instructionBytes goes) → pieceIn (opposite (x .end .direction)) (datagramAt (x .end .direction) (x .end .datagrams) (x .end .sendings + 1) (instructionBytes goes) k) ≡ piece (x .end .sendings + 1) (instructionBytes goes) k
-      piece-back k lt = ap pieceRead (datagram-read (x .end .direction) (x .end .datagrams) (x .end .sendings + 1) (instructionBytes goes) (opposite (x .end .direction)) k (other-way (x .end .direction)) (omega (arith, instruction-length goes, silence-sending .short)) lt)
+      piece-back k lt = ap pieceRead (datagram-read (x .end .direction) (x .end .datagrams) (x .end .sendings + 1) (instructionBytes goes) (opposite (x .end .direction)) k (opposite-apart (x .end .direction)) (omega (arith, instruction-length goes, silence-sending .short)) lt)
 
       -- so they give the instruction
       pub silence-instruction : instructionIn (opposite (x .end .direction)) (datagramsOf (x .end .direction) (x .end .datagrams) (x .end .sendings + 1) (instructionBytes goes)) ≡ instructionBytes goes

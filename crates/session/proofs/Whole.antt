@@ -10,8 +10,9 @@ use Rattle.endpoint.specs.End.{Holding, opened}
 use Rattle.session.specs.History.{Past, begun, opposite}
 use Rattle.session.specs.Law.{Fits, Half, Exchange, TwoLeft, CatchesUp, NoStepBack, Holds, SessionLaw}
 use Rattle.session.specs.Runs.{World, flipped, Step, step, run, SupposedOf, SupposedAll}
+use Rattle.session.proofs.Shared.{inv-flip}
 use Rattle.session.proofs.Invariant.{Inv, Joined}
-use Rattle.session.proofs.Kept.{Keeps, inv-flip, inv-step}
+use Rattle.session.proofs.Kept.{Keeps, inv-step}
 use Rattle.session.proofs.Safety.{right, acknowledged, run-keeps, never-back}
 use Rattle.session.proofs.Catching.{Ready, Halfway, two-exchanges}
 

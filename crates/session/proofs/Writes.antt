@@ -33,12 +33,9 @@ use Rattle.endpoint.proofs.Ticks.{update-numbers, update-together, update-back,
 use Rattle.endpoint.proofs.Written.{datagramAt, contents-join, datagrams-first, sent-cut}
 use Rattle.session.specs.History.{Past, opposite, datagramsIn, pieceRead, pieceIn, sendingIn, instructionIn, newIn, ackIn, orElse, at, wrote, afterTick}
 use Rattle.session.specs.Runs.{World, Lent, tick as ticking, Among, ticks, tickedTo, move}
+use Rattle.session.proofs.Shared.{opposite-apart}
 use Rattle.session.proofs.Invariant.{stateOf, state, Instructs, Carries, Acks, Joined, Inv}
 use Rattle.session.proofs.Changes.{Grows, instructs-still, carries-still, gathers-still, holds-still, back-still}
-
-opposite-apart : (d : Direction) → sameDirection d (opposite d) ≡ false
-opposite-apart TowardDepot = refl
-opposite-apart TowardReader = refl
 
 -- a history with datagrams, a sending's instruction and a number more
 abbrev pub writing : {K : Kind} → Past K → ℕ → List (List ℕ) → ℕ → List ℕ → ℕ → Past K
