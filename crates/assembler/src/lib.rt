@@ -1,4 +1,6 @@
 // The half-made instruction: what puts an instruction together from its fragments, in whatever order they come.
+#![tactic(auto)]
+
 pub mod assembly;
 pub mod half;
 mod marks;

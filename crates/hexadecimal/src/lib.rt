@@ -1,4 +1,6 @@
 // Bytes in hexadecimal.
+#![tactic(auto)]
+
 ghost use Rattle.std.specs.Prelude.{◌≡◌, ◌<◌, IfSome};
 ghost use Rattle.hexadecimal.specs.Digits.{digit_of, byte_of};
 

@@ -1,4 +1,6 @@
 // What travels: an instruction, cut into fragments, each in a datagram.
+#![tactic(auto)]
+
 mod bytes;
 pub mod datagram;
 pub mod fragment;

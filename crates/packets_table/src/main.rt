@@ -1,4 +1,6 @@
 // Runs a table of datagrams, instructions and fragments, good and bad: each line has a kind and what it works on.
+#![tactic(auto)]
+
 mod layouts;
 mod offers;
 mod sendings;

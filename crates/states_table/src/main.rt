@@ -1,4 +1,6 @@
 // Runs a table of diffs, good and damaged: each line has a kind and bytes in hexadecimal.
+#![tactic(auto)]
+
 use journal::journal::Journal;
 use screen::screen::Screen;
 use state::check::Check;

@@ -1,4 +1,6 @@
 // The trace of a replay, read line by line, and the lines of its listing.
+#![tactic(auto)]
+
 mod cursor;
 pub mod line;
 pub mod lines;

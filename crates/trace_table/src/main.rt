@@ -1,4 +1,6 @@
 // Reads each line of standard input as a line of a trace, and writes what was read, or its refusal.
+#![tactic(auto)]
+
 use std::io;
 use std::io::{BufWriter, Read, Write};
 use trace::line::{End, Event, Line};

@@ -1,4 +1,6 @@
 // Reads a trip's keys, taps and positions from a trace, and shows the journal and the screen that they make.
+#![tactic(auto)]
+
 mod entering;
 mod report;
 mod sending;
