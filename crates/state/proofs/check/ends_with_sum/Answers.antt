@@ -13,10 +13,10 @@ other b r x y n is = ne_eqb x y n ∙ sym (is ∙ ap (λ t. t && b) (ne_eqb x y 
 
 pub returns-then-d-n : goal.returns-then-d-n
 returns-then-d-n c =
-    let made = sum_made c.internet-checksum.result c.to-be-bytes-sum.result c.args.n c.args.d.now c.internet-checksum.type-inv c.internet-checksum.ensures c.to-be-bytes-sum.ensures in
-    first _ _ _ _ c.if-d-n.true (sum_compared c.args.n c.args.d.now c.to-be-bytes-sum.result c.requires made)
+    let made = sum_made c.internet_checksum.result c.to_be_bytes-sum.result c.args.n c.args.d.now c.internet_checksum.type_inv c.internet_checksum.ensures c.to_be_bytes-sum.ensures in
+    first _ _ _ _ c.if-d-n.true (sum_compared c.args.n c.args.d.now c.to_be_bytes-sum.result c.requires made)
 
 pub returns-else-d-n : goal.returns-else-d-n
 returns-else-d-n c =
-    let made = sum_made c.internet-checksum.result c.to-be-bytes-sum.result c.args.n c.args.d.now c.internet-checksum.type-inv c.internet-checksum.ensures c.to-be-bytes-sum.ensures in
-    other _ _ _ _ c.if-d-n.false (sum_compared c.args.n c.args.d.now c.to-be-bytes-sum.result c.requires made)
+    let made = sum_made c.internet_checksum.result c.to_be_bytes-sum.result c.args.n c.args.d.now c.internet_checksum.type_inv c.internet_checksum.ensures c.to_be_bytes-sum.ensures in
+    other _ _ _ _ c.if-d-n.false (sum_compared c.args.n c.args.d.now c.to_be_bytes-sum.result c.requires made)

@@ -20,5 +20,5 @@ returns g c =
     let f = sym c.if-not-follows.ensures in
     record {
       answer = put_answer_lem K _ _ c.size-n.result f c.size-n.ensures c.args.out.now (omega arith) (omega arith);
-      buffer = c.put-sum.ensures ∙ put_buffer K _ _ c.size-n.result f c.size-n.ensures c.args.out.now (omega arith) (omega arith) c.diff.new.out c.diff.ensures.buffer;
+      buffer = c.put_sum.ensures ∙ put_buffer K _ _ c.size-n.result f c.size-n.ensures c.args.out.now (omega arith) (omega arith) c.diff.new.out c.diff.ensures.buffer;
     }
