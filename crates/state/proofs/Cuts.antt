@@ -1,5 +1,5 @@
 -- How bytes are read part by part: what the end, a good part and a bad part come to.
-use Rattle.std.proofs.Common.{◌≡◌, ℕ, zero, suc, ◌+◌, ◌-◌, ◌<◌, ◌≤◌, List, [], ◌∷◌, length, drop, Some, None, Ok, Err, Option, Result, sym, refl, ap, ◌∙◌, arith}
+use Rattle.std.proofs.Common.{◌≡◌, ℕ, zero, suc, ◌+◌, ◌-◌, ◌<◌, ◌≤◌, List, [], ◌∷◌, length, drop, Some, None, Err, Option, Result, ap, ◌∙◌, arith}
 use Rattle.state.specs.Parts.{parts}
 
 module _ {S : Type 0} (step : S → List ℕ → Option (S × ℕ)) where

@@ -1,6 +1,6 @@
 -- What the answers of size and diff come to, case by case.
-use Rattle.std.specs.Prelude.{◌≡◌, ℕ, ◌<◌, ◌≤◌, min, Bool, true, false, cond, List, ◌++◌, length, drop, Ok, Err, refl}
-use Rattle.std.proofs.Common.{sym, ap, ◌∙◌}
+use Rattle.std.specs.Prelude.{◌≡◌, ℕ, ◌<◌, ◌≤◌, min, true, false, List, ◌++◌, length, drop, Ok, Err}
+use Rattle.std.proofs.Common.{◌∙◌}
 use Rattle.std.proofs.lemmas.Bool.{cond-true, cond-false, le-leb, lt-leb}
 use Rattle.state.specs.declared.fault.DiffRefusal.TheVariants.{NotFollowing, TooLong}
 use Rattle.state.specs.Kind.{Kind, sized, roomy, diffed, written}

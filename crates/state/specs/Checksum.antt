@@ -1,5 +1,5 @@
 -- The checksum of RFC 1071: 16-bit words added in ones' complement, and the sum inverted.
-use Rattle.std.specs.Prelude.{ℕ, ◌+◌, ◌-◌, ◌*◌, ◌/◌, ◌%◌, Bool, true, false, cond, List, [], ◌∷◌, ◌==◌, nat_le}
+use Rattle.std.specs.Prelude.{ℕ, ◌+◌, ◌-◌, ◌*◌, ◌%◌, cond, List, [], ◌∷◌, ◌==◌, nat_le}
 
 -- the ones' complement sum of two words: a carry is added back
 abbrev pub plus : ℕ → ℕ → ℕ
