@@ -6,7 +6,7 @@ use Rattle.std.proofs.lemmas.Bool.{cases_order, cases_lt, cases_Bool, cond-true,
 use Rattle.window.specs.declared.table.NumberTable.{NumberTable}
 use Rattle.window.specs.declared.answers.Lookup.{Lookup}
 use Rattle.window.specs.declared.answers.Lookup.TheVariants.{Held, Missing}
-use Rattle.window.specs.Numbers.{Numbers, numbers, recorded, marked, empty, Within, inside, free, place, adding, put, stored, starting_at, above, raise, lying, lookup}
+use Rattle.window.specs.Numbers.{Numbers, recorded, marked, empty, Within, inside, free, place, adding, put, stored, starting_at, above, raise, lying, lookup}
 use Rattle.window.specs.Calls.{fits, answer_of}
 use Rattle.window.specs.Laws.{AllWithin, Lookups}
 use Rattle.window.proofs.Marks.{beyond}

@@ -1,5 +1,5 @@
 -- The numbers of a window, and what a put, a raise and a look-up make of them.
-use Rattle.std.specs.Prelude.{◌≡◌, ℕ, ◌+◌, ◌-◌, ◌/◌, ◌%◌, ◌^◌, ◌<◌, ◌≤◌, Bool, true, false, cond, not, ◌&&◌, ◌||◌, List, set, Some, None, ◌==◌, nat_le, nat_lt, slice_set}
+use Rattle.std.specs.Prelude.{◌≡◌, ℕ, ◌+◌, ◌-◌, ◌/◌, ◌%◌, ◌^◌, ◌<◌, ◌≤◌, Bool, true, false, cond, not, ◌&&◌, ◌||◌, List, Some, None, ◌==◌, nat_le, nat_lt, slice_set}
 use Rattle.std.specs.List.{slice_get}
 use Rattle.window.specs.declared.table.NumberTable.{NumberTable}
 use Rattle.window.specs.declared.window.Window.{Window}

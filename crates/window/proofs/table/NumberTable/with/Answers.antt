@@ -17,13 +17,13 @@ low t n h =
 bit : (k w : ℕ) → k < w → w ≤ 64 → (1 * 2 ^ k) % 2 ^ 64 ≡ 2 ^ k
 bit k w h le = one_shl k 64 (omega arith)
 
-pub invariant-of-result : goal.invariant-of-result
-invariant-of-result c =
+pub invariant_of-result : goal.invariant_of-result
+invariant_of-result c =
     let t = c.args.self in
     let k = c.args.n - t.anchor in
     let in' = low t c.args.n (and_parts (inside (recorded t) c.args.n) (not ((recorded t).held c.args.n)) c.requires).0 in
     let small : bit_or t.marks ((1 * 2 ^ k) % 2 ^ 64) < 2 ^ t.width = or_lt t.width t.marks ((1 * 2 ^ k) % 2 ^ 64) t.within.2 (subst (λ v. v < 2 ^ t.width) (sym (bit k t.width in'.1 t.within.1)) (pow_below k t.width in'.1)) in
-    ((t.within.0, t.within.1, small), tt)
+    record { within = (t.within.0, t.within.1, small) }
 
 pub returns : goal.returns
 returns c =
