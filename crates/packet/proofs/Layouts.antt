@@ -1,11 +1,11 @@
 -- Each layout is read back as it was written, and only such bytes are read.
-use Rattle.std.proofs.Common.{◌≡◌, ℕ, ◌+◌, ◌*◌, ◌/◌, ◌%◌, ◌<◌, ◌≤◌, Bool, true, false, cond, ◌&&◌, eqb, ltb, leb, ◌⊎◌, List, [], ◌∷◌, ◌++◌, length, get_or, take, drop, Ok, Err, Result, sym, refl, ap, ◌∙◌, subst, inl, inr, ⊎_elim, arith}
+use Rattle.std.proofs.Common.{◌≡◌, ℕ, ◌+◌, ◌%◌, ◌<◌, ◌≤◌, Bool, true, false, cond, ◌&&◌, eqb, leb, ◌⊎◌, List, ◌∷◌, ◌++◌, length, get_or, take, drop, Ok, Err, Result, sym, refl, ap, ◌∙◌, subst, inl, inr, ⊎_elim, arith}
 use Rattle.std.proofs.lemmas.List.{drop_more, drop-drop, drop_at, length-drop, length-append, take-append-drop, get_or-drop}
 use Rattle.std.proofs.lemmas.Bool.{cond-true, cond-false, and_parts, and_from, le-leb, lt-leb, leb-true, eqb-true, cases_lt}
 use Rattle.std.proofs.lemmas.Bool.Decides.{nat_tests}
 use Rattle.state.specs.BigEndian.{two, four, of_two, of_four}
 use Rattle.packet.specs.declared.refusal.InstructionFault.{InstructionFault}
-use Rattle.packet.specs.declared.refusal.InstructionFault.TheVariants.{NotAnInstruction, NumbersApart}
+use Rattle.packet.specs.declared.refusal.InstructionFault.TheVariants.{NumbersApart}
 use Rattle.packet.specs.declared.refusal.FragmentFault.{FragmentFault}
 use Rattle.packet.specs.declared.refusal.FragmentFault.TheVariants.{Malformed}
 use Rattle.packet.specs.declared.refusal.DatagramFault.TheVariants.{OwnDirection}

@@ -1,11 +1,11 @@
 -- The pieces of a sending and its datagrams, one after the other.
-use Rattle.std.proofs.Common.{◌≡◌, ℕ, zero, suc, ◌+◌, ◌-◌, ◌*◌, ◌/◌, ◌<◌, ◌≤◌, min, false, List, [], ◌∷◌, ◌++◌, map, length, get_or, take, drop, Ok, sym, refl, ap, ◌∙◌, subst, ⊎_elim, arith, take-add}
+use Rattle.std.proofs.Common.{◌≡◌, ℕ, zero, suc, ◌+◌, ◌-◌, ◌*◌, ◌<◌, ◌≤◌, min, false, List, [], ◌∷◌, ◌++◌, map, length, get_or, take, drop, Ok, sym, refl, ap, ◌∙◌, subst, ⊎_elim, arith, take-add}
 use Rattle.std.specs.List.{range_with_len, flat_map}
 use Rattle.std.proofs.lemmas.List.FromFn.{map-range_with_len_more, length-map-range_with_len, get_or-map-range_with_len}
 use Rattle.std.proofs.lemmas.List.{append-nil, flat_map_more, take_all, take_at, drop-drop, drop_at, length-take, length-drop, length-append}
 use Rattle.std.proofs.lemmas.Bool.{cases_lt}
 use Rattle.packet.specs.declared.datagram.Direction.{Direction}
-use Rattle.packet.specs.Pieces.{Piece, piece, piece_count}
+use Rattle.packet.specs.Pieces.{piece, piece_count}
 use Rattle.packet.specs.Fragments.{fragment_bytes}
 use Rattle.packet.specs.Datagrams.{Parcel, same_direction, datagram_around, datagram_bytes, read_datagram}
 use Rattle.packet.specs.Sendings.{parcel, datagrams_of, sending_bytes}

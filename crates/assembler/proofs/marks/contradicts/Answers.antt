@@ -10,22 +10,22 @@ returns-then-has c =
     let p = piece_of c.args.fragment in
     clash_held c.args.held c.args.last c.args.buf.now p c.requires.0 (formed p c.requires.1).number c.repeats.result (sym c.if-has.ensures) c.repeats.ensures
 
-pub returns-then-past-last : goal.returns-then-past-last
-returns-then-past-last c =
+pub returns-then-past_last : goal.returns-then-past_last
+returns-then-past_last c =
     let p = piece_of c.args.fragment in
-    c.if-past-last.true ∙ sym (clash_past c.args.held c.args.last c.args.buf.now p c.requires.0 (formed p c.requires.1).number (sym c.if-has.ensures) (sym c.if-past-last.ensures))
+    c.if-past_last.true ∙ sym (clash_past c.args.held c.args.last c.args.buf.now p c.requires.0 (formed p c.requires.1).number (sym c.if-has.ensures) (sym c.if-past_last.ensures))
 
 pub returns-then-fragment : goal.returns-then-fragment
 returns-then-fragment c =
     let p = piece_of c.args.fragment in
     let number = (formed p c.requires.1).number in
     ⊎_elim
-    (λ r. r ∙ sym (clash_above c.args.held c.args.last c.args.buf.now p c.requires.0 number c.if-fragment.true (sym c.has-above.ensures ∙ r)))
-    (λ r. r ∙ sym (clash_none c.args.held c.args.last c.args.buf.now p c.requires.0 number (sym c.if-has.ensures) (sym c.if-past-last.ensures) (λ _. sym c.has-above.ensures ∙ r)))
-    (cases_Bool c.has-above.result)
+    (λ r. r ∙ sym (clash_above c.args.held c.args.last c.args.buf.now p c.requires.0 number c.if-fragment.true (sym c.has_above.ensures ∙ r)))
+    (λ r. r ∙ sym (clash_none c.args.held c.args.last c.args.buf.now p c.requires.0 number (sym c.if-has.ensures) (sym c.if-past_last.ensures) (λ _. sym c.has_above.ensures ∙ r)))
+    (cases_Bool c.has_above.result)
 
 pub returns-else-fragment : goal.returns-else-fragment
 returns-else-fragment c =
     let p = piece_of c.args.fragment in
     c.if-fragment.false
-    ∙ sym (clash_none c.args.held c.args.last c.args.buf.now p c.requires.0 (formed p c.requires.1).number (sym c.if-has.ensures) (sym c.if-past-last.ensures) (λ l. absurd (both_ways c.args.fragment.last c.if-fragment.false l)))
+    ∙ sym (clash_none c.args.held c.args.last c.args.buf.now p c.requires.0 (formed p c.requires.1).number (sym c.if-has.ensures) (sym c.if-past_last.ensures) (λ l. absurd (both_ways c.args.fragment.last c.if-fragment.false l)))

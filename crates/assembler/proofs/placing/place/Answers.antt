@@ -17,5 +17,5 @@ pub returns : goal.returns
 returns c =
     let p = piece_of c.args.fragment in
     let at : 256 * c.from-k.result ≤ 2048 = omega (arith, (formed p c.requires).number) in
-    from_on (256 * c.from-k.result) 2048 c.args.buf.now c.copy-front.new.dest p.contents c.told-buf at c.copy-front.ensures
+    from_on (256 * c.from-k.result) 2048 c.args.buf.now c.copy_front.new.dest p.contents c.told-buf at c.copy_front.ensures
     ∙ ap (λ k. take (256 * k) c.args.buf.now ++ (p.contents ++ drop (256 * k + length p.contents) c.args.buf.now)) c.from-k.ensures

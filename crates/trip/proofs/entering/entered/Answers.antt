@@ -19,7 +19,7 @@ made t line r event own early is m =
     pick _ _ _ (sym own) (pick _ _ _ (le-leb _ 4000000000 early) (subst P (sym is) m))
 
 pub returns-in-Key : goal.returns-in-Key
-returns-in-Key c = made c.args.trip.now c.args.line c.with-journal.result (Key c.in-Key.key) c.if-not-belongs.ensures c.if-line-gt4000000000.false c.in-Key.is (c.with-key.result, c.with-key.ensures, c.with-journal.ensures)
+returns-in-Key c = made c.args.trip.now c.args.line c.with_journal.result (Key c.in-Key.key) c.if-not-belongs.ensures c.if-line-gt4000000000.false c.in-Key.is (c.with_key.result, c.with_key.ensures, c.with_journal.ensures)
 
 pub returns-in-Tap : goal.returns-in-Tap
-returns-in-Tap c = made c.args.trip.now c.args.line c.with-journal-in-Tap.result (Tap c.in-Tap.card c.in-Tap.fare c.in-Tap.balance) c.if-not-belongs.ensures c.if-line-gt4000000000.false c.in-Tap.is (c.with-tap.result, c.with-tap.ensures, c.with-journal-in-Tap.ensures)
+returns-in-Tap c = made c.args.trip.now c.args.line c.with_journal-in-Tap.result (Tap c.in-Tap.card c.in-Tap.fare c.in-Tap.balance) c.if-not-belongs.ensures c.if-line-gt4000000000.false c.in-Tap.is (c.with_tap.result, c.with_tap.ensures, c.with_journal-in-Tap.ensures)

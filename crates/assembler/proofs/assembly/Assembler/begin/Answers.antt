@@ -11,11 +11,11 @@ returns-then-fragment c =
     let self = c.args.self.now in
     (begin_alone (holding self.state self.buf) (piece_of c.args.fragment) c.requires.other c.requires.formed c.if-fragment-eq0.true c.if-fragment.true, c.requires.other, refl, refl)
 
-pub invariant-of-self : goal.invariant-of-self
-invariant-of-self c =
+pub invariant_of-self : goal.invariant_of-self
+invariant_of-self c =
     let self = c.args.self.now in
     let long : length self.buf ≡ 2048 = search rules in
-    (begin_sound (holding self.state self.buf) (piece_of c.args.fragment) c.requires.other c.requires.formed self.buf long c.with-mark.result c.last-with.result c.with-mark.ensures c.last-with.ensures, tt)
+    (begin_sound (holding self.state self.buf) (piece_of c.args.fragment) c.requires.other c.requires.formed self.buf long c.with_mark.result c.last_with.result c.with_mark.ensures c.last_with.ensures, tt)
 
 pub returns : goal.returns
 returns c =
@@ -27,4 +27,4 @@ returns c =
       | else-fragment-eq0-via-then-fragment-eq0+else-fragment w ↦ both_ways p.last w.if-fragment.false h.1
       | else-fragment-eq0-via-else-fragment-eq0 w ↦ w.if-fragment-eq0.false h.0
     ] in
-    begin_part (holding self.state self.buf) p c.requires.other c.requires.formed self.buf long c.with-mark.result c.last-with.result c.place.new.buf c.with-mark.ensures c.last-with.ensures c.place.ensures more
+    begin_part (holding self.state self.buf) p c.requires.other c.requires.formed self.buf long c.with_mark.result c.last_with.result c.place.new.buf c.with_mark.ensures c.last_with.ensures c.place.ensures more

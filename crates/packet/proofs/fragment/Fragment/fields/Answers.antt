@@ -1,4 +1,4 @@
-use Rattle.std.proofs.Common.{◌≡◌, ◌%◌, ◌<◌, leb, length, drop, ap, ◌∙◌, arith}
+use Rattle.std.proofs.Common.{◌%◌, ◌<◌, leb, ap, arith}
 use Rattle.std.proofs.lemmas.List.{take_rest, length-drop}
 use Rattle.state.specs.BigEndian.{of_two}
 use Rattle.packet.specs.Fragments.{piece_in}
@@ -17,4 +17,4 @@ returns-then-field-gt7 c =
 
 pub returns : goal.returns
 unfolding piece_in
-returns c = λ i. record { sending = c.eight-at.ensures i; number = ap (λ n. n % 32768) c.two-at-field.ensures i; last = ap (leb 32768) c.two-at-field.ensures i; contents = take_rest c.args.bytes.now 10 i }
+returns c = λ i. record { sending = c.eight_at.ensures i; number = ap (λ n. n % 32768) c.two_at-field.ensures i; last = ap (leb 32768) c.two_at-field.ensures i; contents = take_rest c.args.bytes.now 10 i }
