@@ -48,8 +48,8 @@ or_bits a b ha hb =
     at x y e f h = rw (e, f) h
 
 -- a bit of a number with the bit j set
-pub bit_or : (m j k : ℕ) → bit_at (bit_or m (2 ^ j)) k ≡ (bit_at m k || eqb j k)
-bit_or m j k =
+pub bit_or_at : (m j k : ℕ) → bit_at (bit_or m (2 ^ j)) k ≡ (bit_at m k || eqb j k)
+bit_or_at m j k =
     ap (λ x. eqb (x % 2) 1) (or_shr m (2 ^ j) k) ∙ ap (λ x. eqb x 1) (or_mod (m / 2 ^ k) (2 ^ j / 2 ^ k) 1)
     ∙ or_bits (m / 2 ^ k % 2) (2 ^ j / 2 ^ k % 2) (omega arith) (omega arith) ∙ ap (λ t. bit_at m k || t) (pow_bit j k)
 

@@ -10,7 +10,7 @@ use Rattle.assembler.specs.declared.half.Last.{Last}
 use Rattle.assembler.specs.Contents.{Held, adding}
 use Rattle.assembler.specs.Marks.{with_mark, last_with, placed}
 use Rattle.assembler.specs.Reading.{bit_at, is_last, size_of, in_buffer, marked, ended}
-use Rattle.assembler.proofs.Bits.{bit_or}
+use Rattle.assembler.proofs.Bits.{bit_or_at}
 use Rattle.assembler.proofs.Buffers.{placed_own, placed_other}
 use Rattle.assembler.proofs.Agreeing.{Agrees}
 use Rattle.assembler.proofs.Tests.{Formed, end, end_is, size_most, size_middle, last_held}
@@ -58,7 +58,7 @@ module _ (held : ℕ) (last : Option Last) (buf : List ℕ) (p : Piece) (sure : 
   grows_own : adding (marked held last buf) p n ≡ marked (with_mark held n) (last_with last p) (placed buf p) n
   grows_own =
       let some : Held → Option Held = λ h. Some h in
-      let bit : bit_at (with_mark held n) n ≡ true = bit_or held n n ∙ or_right (bit_at held n) (eqb n n) (eq-eqb n n refl) in
+      let bit : bit_at (with_mark held n) n ≡ true = bit_or_at held n n ∙ or_right (bit_at held n) (eqb n n) (eq-eqb n n refl) in
       ap (λ b. cond b (Some (record { bytes = p.contents; last = p.last })) (marked held last buf n)) (eq-eqb n n refl)
       ∙ ap some (held_path (sym (ap (λ m. take m (drop (256 * n) (placed buf p))) own_size ∙ placed_own buf p long shape.number shape.most (length p.contents) refl)) (sym own_mark))
       ∙ ap (λ b. cond b (Some (in_buffer (last_with last p) (placed buf p) n)) None) (sym bit)
@@ -69,7 +69,7 @@ module _ (held : ℕ) (last : Option Last) (buf : List ℕ) (p : Piece) (sure : 
 
   grows_other : (k : ℕ) → (k ≡ n → ⊥) → adding (marked held last buf) p k ≡ marked (with_mark held n) (last_with last p) (placed buf p) k
   grows_other k ne =
-      let bit : bit_at (with_mark held n) k ≡ bit_at held k = bit_or held n k ∙ or_false (bit_at held k) (eqb n k) (ne_eqb n k (λ e. ne (sym e))) in
+      let bit : bit_at (with_mark held n) k ≡ bit_at held k = bit_or_at held n k ∙ or_false (bit_at held k) (eqb n k) (ne_eqb n k (λ e. ne (sym e))) in
       let same : in_buffer (last_with last p) (placed buf p) k ≡ in_buffer last buf k = held_path (ap (λ m. take m (drop (256 * k) (placed buf p))) (other_size k ne) ∙ other_bytes k ne) (other_mark k ne) in
       ap (λ b. cond b (Some (record { bytes = p.contents; last = p.last })) (marked held last buf k)) (ne_eqb k n ne)
       ∙ ap (λ b. cond b (Some (in_buffer last buf k)) None) (sym bit)
