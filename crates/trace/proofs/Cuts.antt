@@ -1,6 +1,6 @@
 -- Lemmas on the lines of a text.
 use Rattle.std.proofs.Common.{◌≡◌, ℕ, suc, ◌+◌, ◌-◌, ◌<◌, ◌≤◌, min, eqb, ltb, ◌⊎◌, List, [], ◌∷◌, ◌++◌, length, take, drop, sym, refl, ap, ◌∙◌, subst, ⊎_elim, one-add, arith}
-use Rattle.std.specs.List.{AllByRecursion as All}
+use Rattle.std.specs.List.{AllByRecursion}
 use Rattle.std.proofs.lemmas.Bool.{cases_eq, cases_lt, cond_both, cond-true, eq-eqb, lt-ltb, ne_eqb}
 use Rattle.std.proofs.lemmas.List.{drop-drop, drop_all, length-drop, take_rest}
 use Rattle.trace.specs.Lines.{onto, lines_of, joined, lacking, Unbroken, Rejoins, line_length, LastAt, LineAt}
@@ -72,16 +72,16 @@ pub none_at : (text : List ℕ) (at : ℕ) → length text ≤ at → LastAt tex
 none_at text at past = (past, ap lines_of (drop_all at text past))
 
 -- the lines of a text have no 0A
-onto_unbroken : (b : ℕ) (lines : List (List ℕ)) → (b ≡ 10 → ⊥) → All Unbroken lines → All Unbroken (onto b lines)
+onto_unbroken : (b : ℕ) (lines : List (List ℕ)) → (b ≡ 10 → ⊥) → AllByRecursion Unbroken lines → AllByRecursion Unbroken (onto b lines)
 onto_unbroken b [] ne all = ((ne, tt), tt)
 onto_unbroken b (line ∷ lines) ne all = ((ne, all.0), all.1)
 
-unbroken : (text : List ℕ) → All Unbroken (lines_of text)
+unbroken : (text : List ℕ) → AllByRecursion Unbroken (lines_of text)
 unbroken [] = tt
 unbroken (b ∷ text) =
     ⊎_elim
-    (λ e. subst (All Unbroken) (sym (lines_end b text e)) (tt, unbroken text))
-    (λ ne. subst (All Unbroken) (sym (lines_on b text ne)) (onto_unbroken b (lines_of text) ne (unbroken text)))
+    (λ e. subst (AllByRecursion Unbroken) (sym (lines_end b text e)) (tt, unbroken text))
+    (λ ne. subst (AllByRecursion Unbroken) (sym (lines_on b text ne)) (onto_unbroken b (lines_of text) ne (unbroken text)))
     (cases_eq b 10)
 
 -- joined, they are the text again
@@ -114,7 +114,7 @@ joined_first : (line text : List ℕ) → Unbroken line → lines_of (line ++ (1
 joined_first [] text all = refl
 joined_first (b ∷ line) text all = lines_on b (line ++ (10 ∷ text)) all.0 ∙ ap (onto b) (joined_first line text all.1)
 
-same : (lines : List (List ℕ)) → All Unbroken lines → lines_of (joined lines) ≡ lines
+same : (lines : List (List ℕ)) → AllByRecursion Unbroken lines → lines_of (joined lines) ≡ lines
 same [] all = refl
 same (line ∷ lines) all = joined_first line (joined lines) all.0 ∙ ap (λ ls. line ∷ ls) (same lines all.1)
 

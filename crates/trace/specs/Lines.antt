@@ -1,6 +1,6 @@
 -- The lines of a text, which 0A ends.
 use Rattle.std.specs.Prelude.{◌≡◌, ℕ, ◌+◌, ◌<◌, ◌≤◌, min, cond, not, List, [], ◌∷◌, ◌++◌, length, drop, ◌==◌, ◌≢◌, nat_lt}
-use Rattle.std.specs.List.{prefix_len, AllByRecursion as All}
+use Rattle.std.specs.List.{prefix_len, AllByRecursion}
 
 -- a byte more at the front of the first line
 abbrev pub onto : ℕ → List (List ℕ) → List (List ℕ)
@@ -25,13 +25,13 @@ lacking (b ∷ (next ∷ text)) = lacking (next ∷ text)
 
 -- a line has no 0A
 abbrev pub Unbroken : List ℕ → Type 0
-Unbroken line = All (λ b. b ≢ 10) line
+Unbroken line = AllByRecursion (λ b. b ≢ 10) line
 
 -- the lines of a text have no 0A and, joined, are the text again; the lines of joined lines are those
 pub record Rejoins : Type 0 where
-  pub unbroken : (text : List ℕ) → All Unbroken (lines_of text)
+  pub unbroken : (text : List ℕ) → AllByRecursion Unbroken (lines_of text)
   pub whole : (text : List ℕ) → joined (lines_of text) ≡ text ++ lacking text
-  pub same : (lines : List (List ℕ)) → All Unbroken lines → lines_of (joined lines) ≡ lines
+  pub same : (lines : List (List ℕ)) → AllByRecursion Unbroken lines → lines_of (joined lines) ≡ lines
 
 -- how many bytes stand before the first 0A
 abbrev pub line_length : List ℕ → ℕ
