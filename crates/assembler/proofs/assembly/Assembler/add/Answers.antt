@@ -13,7 +13,7 @@ pub invariant_of-self-in-None : goal.invariant_of-self-in-None
 invariant_of-self-in-None c =
     let self = c.args.self.now in
     let long : length self.buf ≡ 2048 = search rules in
-    (add_sound self.state c.args.held c.args.last self.buf (piece_of c.args.fragment) c.requires.state self.kept c.requires.formed long c.requires.agrees c.with_mark-held.result c.last_with-last.result c.with_mark-held.ensures c.last_with-last.ensures, tt)
+    record { kept = add_sound self.state c.args.held c.args.last self.buf (piece_of c.args.fragment) c.requires.state self.kept c.requires.formed long c.requires.agrees c.with_mark-held.result c.last_with-last.result c.with_mark-held.ensures c.last_with-last.ensures }
 
 pub returns-in-Some : goal.returns-in-Some
 returns-in-Some c =

@@ -15,7 +15,7 @@ pub invariant_of-self : goal.invariant_of-self
 invariant_of-self c =
     let self = c.args.self.now in
     let long : length self.buf ≡ 2048 = search rules in
-    (begin_sound (holding self.state self.buf) (piece_of c.args.fragment) c.requires.other c.requires.formed self.buf long c.with_mark.result c.last_with.result c.with_mark.ensures c.last_with.ensures, tt)
+    record { kept = begin_sound (holding self.state self.buf) (piece_of c.args.fragment) c.requires.other c.requires.formed self.buf long c.with_mark.result c.last_with.result c.with_mark.ensures c.last_with.ensures }
 
 pub returns : goal.returns
 returns c =
