@@ -1,7 +1,7 @@
 -- Every call keeps the states that an end has sent in a chain.
 use Rattle.std.proofs.Common.{◌≡◌, ℕ, ◌+◌, ◌<◌, ◌≤◌, max, Bool, true, false, not, ◌&&◌, eqb, leb, List, [], ◌∷◌, length, set, IfOk, Ok, Err, Result, sym, refl, ap, ◌∙◌, subst, ⊎_elim, arith, length-set}
 use Rattle.std.proofs.lemmas.Bool.{cases_lt, cases_eq, cond_both, and_parts, and_right, eqb-true, both_ways, not_from_true}
-use Rattle.std.proofs.lemmas.Result.{made_at_ok}
+use Rattle.std.proofs.lemmas.Result.{IfOk-at_ok}
 use Rattle.state.specs.Kind.{Kind, Itself, Onward}
 use Rattle.window.specs.declared.answers.Lookup.{Lookup}
 use Rattle.window.specs.declared.answers.Lookup.TheVariants.{Held, Missing}
@@ -43,7 +43,7 @@ module _ (K L : Kind) (itself : Itself K) (onto : Onward K) where
 
   pub chained_opened : (d : Direction) (time : ℕ) (ks : List K.Contents) (ls : List L.Contents) (h : Holding K L) → opened K L d time ks ls ≡ Ok h → Chained K L h
   chained_opened d time ks ls h eq =
-      made_at_ok (λ (x : Holding K L). Chained K L x) eq
+      IfOk-at_ok (λ (x : Holding K L). Chained K L x) eq
       (cond_both (leb time latest) _ _ (λ r. IfOk r (λ x. Chained K L x))
       (λ _. cond_both (both_fit ks ls) _ _ (λ r. IfOk r (λ x. Chained K L x))
       (λ f. let p = and_parts (eqb (length ks) 16) (eqb (length ls) 16) f in chained_fresh d time ks ls (eqb-true (length ks) 16 p.0) (eqb-true (length ls) 16 p.1))
@@ -53,7 +53,7 @@ module _ (K L : Kind) (itself : Itself K) (onto : Onward K) where
   module _ (h : Holding K L) (c : Chained K L h) where
     pub chained_changed : (target : K.Contents) (e : End K L) → changed K L h.end target ≡ Ok e → Chained K L (after_change K L h e)
     chained_changed target e eq =
-        made_at_ok (λ (x : End K L). Chained K L (after_change K L h x)) eq
+        IfOk-at_ok (λ (x : End K L). Chained K L (after_change K L h x)) eq
         (cond_both (K.follows h.end.current target) _ _ (λ r. IfOk r (λ x. Chained K L (after_change K L h x)))
         (λ f. record {
           sent_store = c.sent_store;

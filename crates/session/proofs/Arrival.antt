@@ -39,7 +39,7 @@ pub record Remains {K : Kind} (p q : Past K) : Type 0 where
   pub written : q.written ≡ p.written
   pub instruction : q.instruction ≡ p.instruction
 
-pub take_remains : {K : Kind} (p : Past K) (time : ℕ) (bs : List ℕ) (r : Result Taken TakeFault) → Remains p (history.afterTake p time bs r)
+pub take_remains : {K : Kind} (p : Past K) (time : ℕ) (bs : List ℕ) (r : Result Taken TakeFault) → Remains p (history.after_take p time bs r)
 take_remains p time bs (Ok (Part k)) = record { current = refl; fixed = refl; written = refl; instruction = refl }
 take_remains p time bs (Ok (Shown n)) = record { current = refl; fixed = refl; written = refl; instruction = refl }
 take_remains p time bs (Ok (Filled n)) = record { current = refl; fixed = refl; written = refl; instruction = refl }
@@ -89,7 +89,7 @@ module _ (K L : Kind) where
   rests_taken : (w : World K L) (time : ℕ) (d : List ℕ) → Inv K L (step K L w (second (take own time d))) → Rests K L w (step K L w (second (take own time d)))
   rests_taken w time d i =
       let t = take_leaves L K w.two time d in
-      record { inv = i; one = refl; past_one_lem = refl; direction = t.direction; current = t.current; top = t.top; sendings = t.sendings; datagrams = t.datagrams; past_two_lem = take_remains w.past_two time (w.past_one.instruction (history.pieceIn w.two.end.direction d).sending) (taken L K w.two time d).answer }
+      record { inv = i; one = refl; past_one_lem = refl; direction = t.direction; current = t.current; top = t.top; sendings = t.sendings; datagrams = t.datagrams; past_two_lem = take_remains w.past_two time (w.past_one.instruction (history.piece_in w.two.end.direction d).sending) (taken L K w.two time d).answer }
 
   nothing_left : {w v : World K L} {ds : List (List ℕ)} → Takes K L w ds v → ds ≡ [] → v ≡ w
   nothing_left (none w) e = refl

@@ -65,10 +65,10 @@ module _ (K L : Kind) (exact : Exact K) (itself : Itself K) (onward : Onward K) 
     inv₁ = keeps w (first (tick own time out)) tt i
 
     sending : Sends K L x time out
-    sending = silence.silence-sending K L x p w.two w.past_two i.forth i.back.received_length exact itself onward r.fits r.left time late in_time out room
+    sending = silence.silence_sending K L x p w.two w.past_two i.forth i.back.received_length exact itself onward r.fits r.left time late in_time out room
 
     went : ticked K L x time out ≡ sent_as K L x (max x.end.clock time) out
-    went = silence.silence-sent K L x p w.two w.past_two i.forth i.back.received_length exact itself onward r.fits r.left time late in_time out room
+    went = silence.silence_sent K L x p w.two w.past_two i.forth i.back.received_length exact itself onward r.fits r.left time late in_time out room
 
     leaves : TickLeaves K L x (ticked K L x time out)
     leaves = tick_leaves K L x i.forth.own time out
@@ -99,7 +99,7 @@ module _ (K L : Kind) (exact : Exact K) (itself : Itself K) (onward : Onward K) 
         elim (cases_Bool (collects w.two.end.half s)) [ inl t ↦ absurd (omega (arith, (i.forth.half s t).past)) | inr f ↦ f ]
 
     tells : (u.old ≡ x.end.sent.anchor) × ((u.new ≡ (ticked K L x time out).end.top) × ((u.ack ≡ x.end.newest) × (u.throwaway ≡ x.end.sent.anchor)))
-    tells = silence.silence-update K L x p w.two w.past_two i.forth i.back.received_length exact itself onward r.fits r.left time late in_time out room
+    tells = silence.silence_update K L x p w.two w.past_two i.forth i.back.received_length exact itself onward r.fits r.left time late in_time out room
 
     in_air : (k : ℕ) → k < piece_count (instruction_bytes u) → Among K L (datagram_bytes (parcel w₁.one.end.direction x.end.datagrams s (instruction_bytes u) k)) w₁.past_one.written
     in_air k lt =
@@ -125,7 +125,7 @@ module _ (K L : Kind) (exact : Exact K) (itself : Itself K) (onward : Onward K) 
     wrote_all : wrote_by (ticked K L x time out) (ticked K L x time out).answer ≡ datagrams_from w₁.one.end.direction x.end.datagrams s (instruction_bytes u) 0 (piece_count (instruction_bytes u))
     unfolding datagrams_of
     wrote_all =
-        silence.silence-wrote K L x p w.two w.past_two i.forth i.back.received_length exact itself onward r.fits r.left time late in_time out room
+        silence.silence_wrote K L x p w.two w.past_two i.forth i.back.received_length exact itself onward r.fits r.left time late in_time out room
         ∙ ap (λ d. datagrams_from d x.end.datagrams s (instruction_bytes u) 0 (piece_count (instruction_bytes u))) (sym leaves.direction)
 
     all_arrived : (v : World K L) → Takes K L w₁ (wrote_by (ticked K L x time out) (ticked K L x time out).answer) v → Rests K L w₁ v × Final K L u.ack w₁ v
@@ -144,12 +144,12 @@ module _ (K L : Kind) (exact : Exact K) (itself : Itself K) (onward : Onward K) 
           fixes = λ room'.
               ap (λ (h : Past K). h.fixed v.one.end.top) rests.past_one_lem
               ∙ ap w₁.past_one.fixed top_is
-              ∙ silence.silence-fixes K L x p w.two w.past_two i.forth i.back.received_length exact itself onward r.fits r.left time late in_time out room room';
+              ∙ silence.silence_fixes K L x p w.two w.past_two i.forth i.back.received_length exact itself onward r.fits r.left time late in_time out room room';
           same_current = ap (λ (h : Past K). h.current) (rests.past_one_lem ∙ past_is);
           same_newest = ap (λ (h : Holding K L). h.end.newest) rests.one ∙ leaves.newest;
           fits =
               let P : Past K → Type 0 = λ h. Fits K h in
-              subst P (sym rests.past_one_lem) (silence.silence-fits K L x p w.two w.past_two i.forth i.back.received_length exact itself onward r.fits r.left time late in_time out room);
+              subst P (sym rests.past_one_lem) (silence.silence_fits K L x p w.two w.past_two i.forth i.back.received_length exact itself onward r.fits r.left time late in_time out room);
           sent = ap (λ (h : Holding K L). h.end.sendings) rests.one ∙ sendings_are;
           other_current = rests.past_two_lem.current;
           other_fixed = rests.past_two_lem.fixed;
