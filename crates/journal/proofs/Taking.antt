@@ -1,5 +1,5 @@
 -- A diff's entries taken in one by one.
-use Rattle.std.proofs.Common.{◌≡◌, ℕ, ◌+◌, ◌-◌, ◌<◌, ◌≤◌, min, Bool, true, false, cond, leb, List, [], ◌∷◌, ◌++◌, length, take, drop, set, Some, None, Ok, Err, Option, Result, sym, refl, ap, ◌∙◌, subst, inl, inr, arith}
+use Rattle.std.proofs.Common.{◌≡◌, ℕ, ◌+◌, ◌-◌, ◌<◌, ◌≤◌, min, cond, leb, List, [], ◌∷◌, ◌++◌, length, take, drop, set, Some, None, Ok, Err, Option, Result, sym, refl, ap, ◌∙◌, inl, inr, arith}
 use Rattle.std.proofs.lemmas.List.{append_assoc, append-nil, drop_all, drop-drop, length-append, length-drop, length_push, length-set, length-take, length-take-le, take_all, take-append-le, take_at, take_more_set}
 use Rattle.std.proofs.lemmas.Bool.{cases_lt, cond-true, cond-false, le-leb, lt-leb}
 use Rattle.state.specs.declared.fault.StateFault.{StateFault}
@@ -9,7 +9,7 @@ use Rattle.state.proofs.Cuts.{parts_good, parts_bad}
 use Rattle.journal.specs.declared.entry.Entry.{Entry}
 use Rattle.journal.specs.declared.journal.Journal.{Journal}
 use Rattle.journal.specs.Entries.{entry_at, entry_bytes, entries_bytes, entries_in, one_more}
-use Rattle.journal.specs.Journals.{Contents, applied, grown, reading, rows}
+use Rattle.journal.specs.Journals.{Contents, applied, grown, reading}
 use Rattle.journal.specs.Bytes.{applied_bad, applied_good, bytes_append, entry_fits, more, no_more, width_pos}
 use Rattle.journal.specs.Rows.{few_no, few_yes, reading_is}
 

@@ -1,15 +1,15 @@
 -- Entries written are the entries read.
-use Rattle.std.specs.Prelude.{◌≡◌, ℕ, ◌+◌, ◌-◌, ◌*◌, ◌/◌, ◌%◌, ◌<◌, ◌≤◌, Bool, true, false, cond, ◌&&◌, List, [], ◌∷◌, ◌++◌, length, take, drop, Some, None, Ok, Err, Option, Result, ◌==◌, nat_le, slice_index, slice_index_or, refl}
+use Rattle.std.specs.Prelude.{◌≡◌, ℕ, ◌+◌, ◌-◌, ◌*◌, ◌<◌, ◌≤◌, Bool, true, false, cond, ◌&&◌, List, [], ◌∷◌, ◌++◌, length, take, drop, Some, None, Ok, Err, Option, Result, ◌==◌, nat_le, slice_index, slice_index_or, refl}
 use Rattle.std.proofs.Common.{sym, ap, subst, ◌∙◌, arith}
 use Rattle.std.proofs.lemmas.List.{append_assoc, append-nil, drop_all, drop_at, drop-drop, flat_map_more, length-append, length-drop, take-append-drop, take_at, take_more, take_rest}
 use borrow.Rule.Slice.PartMut.{put_mid}
-use Rattle.std.proofs.lemmas.Bool.{and_parts, cond-true, cond-false, le-leb, leb-true}
+use Rattle.std.proofs.lemmas.Bool.{and_parts, cond-true, le-leb, leb-true}
 use Rattle.state.specs.declared.fault.StateFault.{StateFault}
-use Rattle.state.specs.declared.fault.StateFault.TheVariants.{BadEntry, TooManyEntries}
+use Rattle.state.specs.declared.fault.StateFault.TheVariants.{BadEntry}
 use Rattle.state.specs.BigEndian.{of_four, of_two}
 use Rattle.state.specs.Kind.{Reaches}
 use Rattle.state.specs.Parts.{parts}
-use Rattle.state.proofs.Cuts.{parts_good, parts_bad}
+use Rattle.state.proofs.Cuts.{parts_good}
 use Rattle.journal.specs.declared.entry.Entry.{Entry}
 use Rattle.journal.specs.declared.entry.Entry.TheVariants.{Key, Tap}
 use Rattle.journal.specs.Entries.{entry_bytes, entries_bytes, entry_at, one_more, entries_in}

@@ -1,5 +1,5 @@
 -- A journal's contents with one entry more.
-use Rattle.std.specs.Prelude.{ℕ, Bool, cond, ◌&&◌, List, [], ◌∷◌, ◌++◌, Ok, Err, Result, nat_lt}
+use Rattle.std.specs.Prelude.{ℕ, cond, ◌&&◌, [], ◌∷◌, ◌++◌, Ok, Err, Result, nat_lt}
 use Rattle.state.specs.declared.fault.EditRefusal.{EditRefusal}
 use Rattle.state.specs.declared.fault.EditRefusal.TheVariants.{OutsideField, Full}
 use Rattle.journal.specs.declared.entry.Entry.{Entry}

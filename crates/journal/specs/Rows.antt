@@ -1,15 +1,16 @@
 -- When journals are the same, and when one follows another.
-use Rattle.std.specs.Prelude.{◌≡◌, ℕ, ◌+◌, ◌-◌, ◌<◌, ◌≤◌, min, Bool, true, false, cond, ◌&&◌, List, [], ◌∷◌, ◌++◌, length, take, drop, Some, None, Decides, Option, MatchOption, ◌==◌, ◌≢◌, nat_le, refl}
+use Rattle.std.specs.Prelude.{◌≡◌, ◌<◌, ◌≤◌, Bool, true, false, ◌&&◌, List, [], ◌∷◌, ◌++◌, length, take, drop, Some, None, Decides, Option, MatchOption, ◌==◌, ◌≢◌, nat_le, refl}
 use Rattle.std.proofs.Common.{sym, ap, ◌∙◌, arith, inl, inr}
 use Rattle.std.proofs.Math.Bool.{Bool-set}
 use mathlib.Core.HLevel.{Σ_prop_path}
 use Rattle.std.proofs.lemmas.Slice.Eq.{slice_eq-Decides}
 use Rattle.std.proofs.lemmas.List.{length-take, take_all, take_at, take-take, take-append-drop}
-use Rattle.std.proofs.lemmas.Bool.{both_ways, cases_Bool, cond_both, cond-true, cond-false, false≢true, le-leb, lt-leb, leb-true}
-use Rattle.std.proofs.lemmas.Bool.Decides.{Decides-and, Decides-eqb, decides_like, same_from_decides}
+use Rattle.std.proofs.lemmas.Bool.{both_ways, cases_Bool, cond_both, false≢true, le-leb, lt-leb, leb-true}
+use Rattle.std.proofs.lemmas.Bool.Decides.{Decides-and, Decides-eqb, Decides-like, same_from_decides}
 use Rattle.std.proofs.lemmas.List.Prefix.{front_rest}
 use Rattle.std.specs.Borrow.{Bor}
-use Rattle.std.specs.Cmp.Lexicographic.{Matches}
+use Rattle.std.specs.Cmp.{IsEquivalence}
+use Rattle.std.specs.Cmp.Lexicographic.{pointwise}
 use Rattle.state.specs.Kind.{Exact, Itself, Onward}
 use Rattle.journal.specs.declared.entry.Entry.{Entry}
 use Rattle.journal.specs.declared.entry.Entry.TheVariants.{Key, Tap}
@@ -49,29 +50,37 @@ reading_is j =
 pub reads_as : (j : Journal) (c : Contents) → rows j ≡ c.0 → reading j ≡ c
 reads_as j c e = same_contents (reading j) c (reading_is j ∙ e)
 
-same_entry_decides : (a b : Entry) → Decides (same_entry a b) (a ≡ b)
-same_entry_decides (Key a) (Key b) = decides_like (a == b) (λ e. cc) (λ e. cc) (Decides-eqb a b)
+pub same_entry_decides : (a b : Entry) → Decides (same_entry a b) (a ≡ b)
+same_entry_decides (Key a) (Key b) = Decides-like (a == b) (λ e. cc) (λ e. cc) (Decides-eqb a b)
 same_entry_decides (Key a) (Tap c f m) = (λ e. absurd (false≢true e), λ e. cc)
 same_entry_decides (Tap c f m) (Key b) = (λ e. absurd (false≢true e), λ e. cc)
 same_entry_decides (Tap c f m) (Tap c' f' m') =
-    decides_like (c == c' && (f == f' && m == m')) (λ e. cc) (λ e. (cc, (cc, cc)))
+    Decides-like (c == c' && (f == f' && m == m')) (λ e. cc) (λ e. (cc, (cc, cc)))
     (Decides-and _ _ (Decides-eqb c c') (Decides-and _ _ (Decides-eqb f f') (Decides-eqb m m')))
+
+-- so `==` on entries is an equivalence
+pub same_entry_equiv : IsEquivalence same_entry
+same_entry_equiv = record {
+  refl = λ a. (same_entry_decides a a).1 refl;
+  symm = λ a b. same_from_decides (same_entry a b) (same_entry b a) (same_entry_decides a b) (λ e. sym ((same_entry_decides b a).0 e), λ e. (same_entry_decides b a).1 (sym e));
+  congr = λ a b c e. ap (λ x. same_entry x c) ((same_entry_decides a b).0 e);
+}
 
 pub same_entries_decides : (xs ys : List Entry) → Decides (same_entries xs ys) (xs ≡ ys)
 same_entries_decides [] [] = (λ _. refl, λ _. refl)
 same_entries_decides [] (y ∷ ys) = (λ e. absurd (false≢true e), λ e. cc)
 same_entries_decides (x ∷ xs) [] = (λ e. absurd (false≢true e), λ e. cc)
 same_entries_decides (x ∷ xs) (y ∷ ys) =
-    decides_like (same_entry x y && same_entries xs ys) (λ e. cc) (λ e. (cc, cc))
+    Decides-like (same_entry x y && same_entries xs ys) (λ e. cc) (λ e. (cc, cc))
     (Decides-and _ _ (same_entry_decides x y) (same_entries_decides xs ys))
 
 -- what `==` on slices of entries answers
-pub compared : (xs ys : List Entry) (r : Bool) → Matches (λ (a b : Entry) (t : Bool). Decides t (a ≡ b)) xs ys r → r ≡ same_entries xs ys
-compared xs ys r m = same_from_decides r (same_entries xs ys) (slice_eq-Decides Decides-eqb xs ys r m) (same_entries_decides xs ys)
+pub compared : {E : Entry → Entry → Bool} → ((a b : Entry) → Decides (E a b) (a ≡ b)) → (xs ys : List Entry) (r : Bool) → r ≡ pointwise E xs ys → r ≡ same_entries xs ys
+compared d xs ys r m = same_from_decides r (same_entries xs ys) (slice_eq-Decides d xs ys r m) (same_entries_decides xs ys)
 
 pub journal_exact : Exact journal_kind
 journal_exact a b =
-    decides_like (same_entries a.0 b.0) (same_contents a b) (λ e. ap (λ (c : Contents). c.0) e) (same_entries_decides a.0 b.0)
+    Decides-like (same_entries a.0 b.0) (same_contents a b) (λ e. ap (λ (c : Contents). c.0) e) (same_entries_decides a.0 b.0)
 
 -- a base is its follower's front
 pub front : (b t : Contents) → follows b t ≡ true → b.0 ≡ take (length b.0) t.0

@@ -1,9 +1,9 @@
 // An entry of a journal, and its bytes.
 ghost use Rattle.std.specs.Prelude.{◌≡◌, ◌≤◌, ◌++◌, length, drop, Decides};
+ghost use Rattle.std.specs.Cmp.{partial_equiv_from_equiv};
 ghost use Rattle.journal.specs.Entries.{entry_bytes, entry_at};
-ghost use Rattle.std.specs.Cmp.Rules.{comparing};
-ghost use Rattle.std.proofs.Common.{rules};
-ghost use Rattle.std.specs.Cmp as Keys;
+ghost use Rattle.journal.specs.Journals.{same_entry};
+ghost use Rattle.journal.specs.Rows.{same_entry_equiv};
 
 // A key that the driver pressed, or a tap of a card with its fare and the balance left, in cents.
 #[derive(Clone, Copy, Eq, Debug)]
@@ -14,11 +14,14 @@ pub enum Entry {
 
 // Equal entries are those of one sort with equal fields.
 impl PartialEq for Entry {
-    ghost equals = { λ a b r. Decides r (a ≡ b) };
+    ghost eq = { same_entry };
 
-    ghost laws = { Keys.partial_equiv_from_equiv (Prim.search (comparing, rules)) };
+    ghost laws = { partial_equiv_from_equiv same_entry_equiv };
 
-    fn eq(&self, other: &Entry) -> bool {
+    fn eq(&self, other: &Entry) -> bool
+        ensures value { result ≡ same_entry self.now other.now }
+        ensures decides { Decides result (self.now ≡ other.now) }
+    {
         match (*self, *other) {
             (Entry::Key { code }, Entry::Key { code: other }) => code == other,
             (

@@ -1,9 +1,9 @@
-use Rattle.std.proofs.Common.{◌≡◌, ℕ, ◌≤◌, List, [], ◌++◌, length, take, refl, ap, ◌∙◌, arith}
+use Rattle.std.proofs.Common.{◌≡◌, ◌≤◌, List, [], ◌++◌, length, take, refl, ap, ◌∙◌, arith}
 use Rattle.std.proofs.lemmas.List.{take_at}
 use Rattle.std.proofs.lemmas.Bool.{cond-true, le-leb}
 use Rattle.journal.specs.declared.entry.Entry.{Entry}
 use Rattle.journal.specs.declared.journal.Journal.{Journal}
-use Rattle.journal.specs.Journals.{Contents, reading, rows}
+use Rattle.journal.specs.Journals.{Contents, reading}
 use Rattle.journal.specs.Rows.{reads_as}
 use Rattle.journal.proofs.kind.copied.Goals as goal
 
@@ -14,7 +14,7 @@ copy_reads held rest all c is e few =
 
 pub returns : goal.returns
 returns c = record {
-  same = copy_reads c.entries-held.result.now _ c.copy-front.new.dest (reading c.args.journal.now) c.copy-front.ensures c.entries-held.ensures.value c.entries-held.ensures.bound;
+  same = copy_reads c.entries-held.result.now _ c.copy_front.new.dest (reading c.args.journal.now) c.copy_front.ensures c.entries-held.ensures.value c.entries-held.ensures.bound;
   bound = c.entries-held.ensures.bound;
   whole = omega arith;
 }

@@ -1,15 +1,15 @@
-use Rattle.std.proofs.Common.{◌+◌, ◌++◌, length, drop, sym, ap, ◌∙◌, arith}
+use Rattle.std.proofs.Common.{◌+◌, ◌++◌, length, drop, ap, ◌∙◌, arith}
 use Rattle.std.proofs.lemmas.List.{length-drop, take_all, take_rest}
 use Rattle.journal.specs.declared.entry.Entry.TheVariants.{Key}
 use Rattle.journal.specs.Entries.{entries_bytes}
 use Rattle.journal.specs.Bytes.{length_front, length_more, put_more}
 use Rattle.journal.proofs.kind.put_all.Goals as goal
 
-pub slice-bounds-put-count : goal.slice-bounds-put-count
-slice-bounds-put-count c = omega (arith, length_front c.args.entries.now c.loop-e.e-index)
+pub slice_bounds-put-count : goal.slice_bounds-put-count
+slice_bounds-put-count c = omega (arith, length_front c.args.entries.now c.loop-e.e-index)
 
-pub slice-bounds-put-start : goal.slice-bounds-put-start
-slice-bounds-put-start c = omega (arith, length_front c.args.entries.now c.loop-e.e-index)
+pub slice_bounds-put-start : goal.slice_bounds-put-start
+slice_bounds-put-start c = omega (arith, length_front c.args.entries.now c.loop-e.e-index)
 
 pub put-requires : goal.put-requires
 put-requires c =
