@@ -1,12 +1,12 @@
 -- A diff that is taken leaves a legal picture.
-use Rattle.std.proofs.Common.{◌≡◌, ℕ, zero, suc, ◌+◌, ◌-◌, ◌*◌, ◌<◌, ◌≤◌, Bool, true, false, cond, ◌&&◌, eqb, ltb, leb, List, [], ◌∷◌, ◌++◌, length, get_or, take, drop, Some, None, Ok, Err, Option, Result, sym, refl, ap, ◌∙◌, subst, ⊎_elim, arith}
+use Rattle.std.proofs.Common.{◌≡◌, ℕ, zero, suc, ◌+◌, ◌-◌, true, eqb, leb, List, [], ◌∷◌, ◌++◌, length, get_or, take, drop, Some, None, Ok, Err, Option, Result, sym, refl, ap, ◌∙◌, subst, ⊎_elim, arith}
 use Rattle.std.proofs.lemmas.List.{length-drop, length-take-le}
 use Rattle.std.proofs.lemmas.Bool.{cond-true, cond-false, cases_Bool, and_parts, and_from, eq-eqb}
 use Rattle.state.specs.declared.fault.StateFault.{StateFault}
 use Rattle.state.specs.declared.fault.StateFault.TheVariants.{BadRun}
 use Rattle.state.specs.Parts.{parts}
 use Rattle.screen.specs.Runs.{is_character, all_characters, put, Drawing, position_of, text_of, fits, is_run, run_read, redrawn}
-use Rattle.screen.specs.Screen.{Picture, Contents, on_screen, legal, settled, is_cursor, apply, AppliesAsTold}
+use Rattle.screen.specs.Screen.{Picture, Contents, on_screen, legal, settled, is_cursor, AppliesAsTold}
 use Rattle.screen.specs.Legal.{bounds, settled_legal}
 use Rattle.screen.specs.Placed.{length_put, characters_take, characters_drop}
 use Rattle.screen.proofs.Readers.{good}

@@ -1,12 +1,12 @@
 -- The runs of one row, one after another.
-use Rattle.std.proofs.Common.{◌≡◌, ℕ, ◌+◌, ◌-◌, ◌*◌, ◌%◌, ◌<◌, ◌≤◌, true, false, List, [], ◌++◌, length, take, drop, Some, None, sym, refl, ap, ◌∙◌, ⊎_elim, arith}
+use Rattle.std.proofs.Common.{◌≡◌, ℕ, ◌+◌, ◌-◌, ◌*◌, ◌%◌, ◌<◌, ◌≤◌, true, List, [], ◌++◌, length, take, drop, Some, None, sym, refl, ap, ◌∙◌, ⊎_elim, arith}
 use Rattle.std.proofs.lemmas.List.{length-append, length-take-le, length-drop}
 use Rattle.std.proofs.lemmas.Bool.{cases_eq, cases_Bool}
 use Rattle.screen.specs.declared.runs.Run.{Run}
 use Rattle.screen.specs.Runs.{put, differ, begins, differing, run_length, run_bytes, runs_from}
 use Rattle.screen.specs.Steps.{FirstRun}
 use Rattle.screen.specs.Placed.{put_put}
-use Rattle.screen.specs.Stretches.{begins_none, begins_after, begins_behind, differing_le, differing_zero, differing_none, runs_none, runs_at, runs_quiet, runs_run, runs_split, run_short}
+use Rattle.screen.specs.Stretches.{begins_none, begins_after, begins_behind, differing_none, runs_none, runs_at, runs_quiet, runs_run, runs_split, run_short}
 
 -- what a run that was found in a row tells of the row's runs from a position on
 pub record Found (b t : List ℕ) (row from : ℕ) (r : Run) : Type 0 where

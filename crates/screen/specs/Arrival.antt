@@ -1,14 +1,14 @@
 -- The diff from a base to a target, applied to the base, gives the target.
-use Rattle.std.specs.Prelude.{◌≡◌, ℕ, zero, suc, ◌+◌, ◌-◌, ◌*◌, ◌/◌, ◌%◌, ◌<◌, ◌≤◌, Bool, true, false, cond, not, ◌&&◌, ◌⊎◌, List, [], ◌∷◌, ◌++◌, length, take, drop, Some, None, Ok, Err, Option, Result, ◌==◌, nat_le, nat_lt, slice_index, refl}
-use Rattle.std.proofs.Common.{sym, ap, ◌∙◌, append_assoc, inl, inr, ⊎_elim, arith}
+use Rattle.std.specs.Prelude.{◌≡◌, ℕ, zero, suc, ◌+◌, ◌-◌, ◌*◌, ◌/◌, ◌%◌, ◌<◌, ◌≤◌, true, false, List, [], ◌∷◌, ◌++◌, length, take, drop, Some, Ok, Err, Option, Result, ◌==◌, nat_le, nat_lt, slice_index, refl}
+use Rattle.std.proofs.Common.{sym, ap, ◌∙◌, append_assoc, ⊎_elim, arith}
 use Rattle.std.proofs.lemmas.List.{length-append, length-drop, take_at, drop_at, take_all, take_more, drop_more, drop_all, append-nil, length-take-le}
-use Rattle.std.proofs.lemmas.Bool.{cond-true, cases_Bool, and_parts, and_from, le-leb, lt-ltb, eqb-true, not-false}
+use Rattle.std.proofs.lemmas.Bool.{cond-true, cases_Bool, and_from, le-leb, lt-ltb, eqb-true, not-false}
 use Rattle.state.specs.declared.fault.StateFault.{StateFault}
 use Rattle.state.specs.declared.fault.StateFault.TheVariants.{BadRun}
 use Rattle.state.specs.Kind.{Reaches}
 use Rattle.state.specs.Parts.{parts}
 use Rattle.state.proofs.Cuts.{parts_good}
-use Rattle.screen.specs.Runs.{all_characters, put, differ, begins, run_length, run_bytes, runs_from, Drawing, position_of, text_of, fits, is_run, run_read}
+use Rattle.screen.specs.Runs.{all_characters, put, differ, begins, run_length, run_bytes, runs_from, Drawing, text_of, fits, is_run, run_read}
 use Rattle.screen.specs.Screen.{Contents, settled, diff, is_cursor, screen_kind}
 use Rattle.screen.specs.Legal.{same_contents, settled_legal, bounds}
 use Rattle.screen.specs.Placed.{halfway, halfway_more, characters_take, characters_drop}

@@ -1,10 +1,10 @@
 -- Laws of runs: where one begins, how long it is, and what stands behind it.
-use Rattle.std.specs.Prelude.{◌≡◌, ℕ, zero, suc, ◌+◌, ◌-◌, ◌*◌, ◌/◌, ◌%◌, ◌<◌, ◌≤◌, Bool, true, false, cond, not, ◌&&◌, ◌||◌, ◌⊎◌, List, [], ◌∷◌, ◌++◌, length, take, drop, ◌==◌, ◌≢◌, slice_index}
+use Rattle.std.specs.Prelude.{◌≡◌, ℕ, zero, suc, ◌+◌, ◌-◌, ◌*◌, ◌%◌, ◌<◌, ◌≤◌, Bool, true, false, not, ◌&&◌, List, [], ◌++◌, length, take, drop, ◌==◌, ◌≢◌, slice_index}
 use Rattle.std.proofs.Math.Path.{refl, sym, ap}
-use Rattle.std.proofs.Common.{◌∙◌, append_assoc, inl, inr, ⊎_elim}
+use Rattle.std.proofs.Common.{◌∙◌, append_assoc, ⊎_elim}
 use native.Mathlib.Omega.{arith}
-use Rattle.std.proofs.lemmas.List.{length-append, length-take, length-drop}
-use Rattle.std.proofs.lemmas.Bool.{cond-true, cond-false, cond_both, cases_Bool, and_left, and_right, and_from, or_left, or_right, or_from, not_from_true, not_from_false, eq-eqb, ne_eqb, cases_eq, cases_lt, and_parts, both_ways}
+use Rattle.std.proofs.lemmas.List.{length-append, length-take}
+use Rattle.std.proofs.lemmas.Bool.{cond-true, cond-false, cond_both, cases_Bool, and_left, and_right, or_left, or_right, or_from, not_from_true, not_from_false, eq-eqb, ne_eqb, cases_eq, cases_lt}
 use Rattle.screen.specs.Runs.{differ, begins, differing, run_length, run_bytes, run_at, runs_from}
 
 module _ (b t : List ℕ) where

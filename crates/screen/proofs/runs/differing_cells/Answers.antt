@@ -1,4 +1,4 @@
-use Rattle.std.proofs.Common.{◌≡◌, ◌+◌, ◌-◌, ◌≤◌, ap, ◌∙◌, arith}
+use Rattle.std.proofs.Common.{◌+◌, ◌-◌, ap, arith}
 use Rattle.screen.specs.Runs.{differing}
 use Rattle.screen.specs.Stretches.{differ_yes, differ_no, differing_some, differing_none, differing_le}
 use Rattle.screen.proofs.runs.differing_cells.Goals as goal

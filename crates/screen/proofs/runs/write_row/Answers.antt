@@ -1,6 +1,6 @@
-use Rattle.std.proofs.Common.{◌≡◌, ℕ, ◌+◌, ◌-◌, ◌*◌, ◌≤◌, List, ◌++◌, length, take, drop, sym, refl, ap, ◌∙◌, arith}
+use Rattle.std.proofs.Common.{◌≡◌, ℕ, ◌+◌, ◌-◌, ◌*◌, List, length, take, drop, sym, refl, ap, ◌∙◌, arith}
 use Rattle.screen.specs.declared.runs.Run.{Run}
-use Rattle.screen.specs.Runs.{put, run_bytes, runs_from}
+use Rattle.screen.specs.Runs.{put, runs_from}
 use Rattle.screen.specs.Placed.{put_none}
 use Rattle.screen.proofs.Rows.{found, none_found, row_written}
 use Rattle.screen.specs.Stretches.{begins_row, runs_at}
@@ -17,29 +17,29 @@ loop-position-init c =
     let e = runs_at b t {i = s} {n = s + 40 - s} {n' = 40} refl (omega arith) in
     (omega arith, omega arith, begins_row b t s (omega arith), omega (arith, ap length e), ap (put c.args.out.now c.args.at) e)
 
-pub overflow-add-from : goal.overflow-add-from
-overflow-add-from c =
+pub overflow_add-from : goal.overflow_add-from
+overflow_add-from c =
     let f = found c.args.old.now c.args.new.now c.args.row c.loop-position.from c.told-new c.requires.0 c.loop-position.invariant.0 c.loop-position.invariant.1 c.loop-position.invariant.2 c.in-Some.field-0 c.in-Some.ensures in
     omega (arith, f.low, f.short)
 
-pub slice-bounds-write-run-end : goal.slice-bounds-write-run-end
-slice-bounds-write-run-end c =
+pub slice_bounds-write_run-end : goal.slice_bounds-write_run-end
+slice_bounds-write_run-end c =
     let f = found c.args.old.now c.args.new.now c.args.row c.loop-position.from c.told-new c.requires.0 c.loop-position.invariant.0 c.loop-position.invariant.1 c.loop-position.invariant.2 c.in-Some.field-0 c.in-Some.ensures in
     omega (arith, f.inside, c.requires)
 
-pub write-run-requires : goal.write-run-requires
-write-run-requires c =
+pub write_run-requires : goal.write_run-requires
+write_run-requires c =
     let f = found c.args.old.now c.args.new.now c.args.row c.loop-position.from c.told-new c.requires.0 c.loop-position.invariant.0 c.loop-position.invariant.1 c.loop-position.invariant.2 c.in-Some.field-0 c.in-Some.ensures in
     let e = part_is c.args.new.now c.in-Some.field-0 in
     (f.low, (omega (arith, ap length e, f.text, f.short), omega (arith, ap length e, f.text, f.bytes, c.loop-position.invariant, c.requires)))
 
-pub overflow-add-place : goal.overflow-add-place
-overflow-add-place c =
+pub overflow_add-place : goal.overflow_add-place
+overflow_add-place c =
     let f = found c.args.old.now c.args.new.now c.args.row c.loop-position.from c.told-new c.requires.0 c.loop-position.invariant.0 c.loop-position.invariant.1 c.loop-position.invariant.2 c.in-Some.field-0 c.in-Some.ensures in
     omega (arith, f.short)
 
-pub overflow-add-place-in-Some : goal.overflow-add-place-in-Some
-overflow-add-place-in-Some c =
+pub overflow_add-place-in-Some : goal.overflow_add-place-in-Some
+overflow_add-place-in-Some c =
     let f = found c.args.old.now c.args.new.now c.args.row c.loop-position.from c.told-new c.requires.0 c.loop-position.invariant.0 c.loop-position.invariant.1 c.loop-position.invariant.2 c.in-Some.field-0 c.in-Some.ensures in
     omega (arith, f.bytes, c.loop-position.invariant, c.requires)
 
@@ -50,7 +50,7 @@ loop-position-preserved c =
       f.inside,
       f.fresh,
       omega (arith, f.bytes, c.loop-position.invariant),
-      ap (λ xs. put xs (c.loop-position.place + (3 + c.in-Some.field-0.length)) (runs_from c.args.old.now c.args.new.now (c.in-Some.field-0.position + c.in-Some.field-0.length) (40 * c.args.row + 40 - (c.in-Some.field-0.position + c.in-Some.field-0.length)))) c.write-run.ensures
+      ap (λ xs. put xs (c.loop-position.place + (3 + c.in-Some.field-0.length)) (runs_from c.args.old.now c.args.new.now (c.in-Some.field-0.position + c.in-Some.field-0.length) (40 * c.args.row + 40 - (c.in-Some.field-0.position + c.in-Some.field-0.length)))) c.write_run.ensures
           ∙ row_written c.args.old.now c.args.new.now c.args.row c.loop-position.from c.in-Some.field-0 f c.loop-position.out c.loop-position.place _ (part_is c.args.new.now c.in-Some.field-0) (omega (arith, c.loop-position.invariant, c.requires))
           ∙ c.loop-position.invariant.4,
     )
@@ -59,7 +59,7 @@ pub returns : goal.returns
 returns c =
     let b = c.args.old.now in
     let t = c.args.new.now in
-    let none = none_found b t c.args.row c.loop-position.from c.told-new c.requires.0 c.loop-position.invariant.0 c.loop-position.invariant.1 c.loop-position.invariant.2 c.in-default.ensures in
+    let none = none_found b t c.args.row c.loop-position.from c.told-new c.requires.0 c.loop-position.invariant.0 c.loop-position.invariant.1 c.loop-position.invariant.2 c.in_default.ensures in
     record {
       place = omega (arith, ap length none, c.loop-position.invariant);
       buffer = sym (put_none c.loop-position.out c.loop-position.place) ∙ ap (put c.loop-position.out c.loop-position.place) (sym none) ∙ c.loop-position.invariant.4;

@@ -1,13 +1,12 @@
-use Rattle.std.proofs.Common.{◌≡◌, ◌+◌, ◌-◌, ◌*◌, ◌≤◌, length, sym, refl, ap, ◌∙◌, arith}
-use Rattle.std.proofs.lemmas.List.{length-append}
+use Rattle.std.proofs.Common.{◌+◌, ◌-◌, ◌*◌, sym, refl, ap, ◌∙◌, arith}
 use Rattle.screen.specs.Runs.{put, runs_from}
 use Rattle.screen.specs.Placed.{put_none, put_put}
 use Rattle.screen.proofs.Rows.{row_more, row_bytes}
 use Rattle.screen.specs.Stretches.{runs_none, runs_at}
 use Rattle.screen.proofs.runs.write_runs.Goals as goal
 
-pub write-row-place-requires : goal.write-row-place-requires
-write-row-place-requires c = (c.loop-row-test.true, omega (arith, row_bytes c.args.old.now c.args.new.now c.loop-row.row c.loop-row-test.true, c.loop-row.invariant, c.requires))
+pub write_row-place-requires : goal.write_row-place-requires
+write_row-place-requires c = (c.loop-row-test.true, omega (arith, row_bytes c.args.old.now c.args.new.now c.loop-row.row c.loop-row-test.true, c.loop-row.invariant, c.requires))
 
 pub loop-row-preserved : goal.loop-row-preserved
 loop-row-preserved c =
@@ -18,9 +17,9 @@ loop-row-preserved c =
     let here = runs_from b t (40 * row) 40 in
     let rest = runs_from b t (40 * (row + 1)) (320 - 40 * (row + 1)) in
     let bytes = row_bytes b t row c.loop-row-test.true in (
-      omega (arith, bytes, c.loop-row.invariant, c.write-row-place.ensures.place),
-      ap (λ xs. put xs c.write-row-place.result rest) {y = put c.loop-row.out c.loop-row.place (runs_from c.args.old.now c.args.new.now (40 * c.loop-row.row) 40)} c.write-row-place.ensures.buffer
-          ∙ put_put out c.loop-row.place here rest c.write-row-place.result c.write-row-place.ensures.place (omega (arith, bytes, c.loop-row.invariant, c.requires, c.write-row-place.ensures.place))
+      omega (arith, bytes, c.loop-row.invariant, c.write_row-place.ensures.place),
+      ap (λ xs. put xs c.write_row-place.result rest) {y = put c.loop-row.out c.loop-row.place (runs_from c.args.old.now c.args.new.now (40 * c.loop-row.row) 40)} c.write_row-place.ensures.buffer
+          ∙ put_put out c.loop-row.place here rest c.write_row-place.result c.write_row-place.ensures.place (omega (arith, bytes, c.loop-row.invariant, c.requires, c.write_row-place.ensures.place))
           ∙ ap (put out c.loop-row.place) (sym (row_more b t row c.loop-row-test.true))
           ∙ c.loop-row.invariant.1,
     )
