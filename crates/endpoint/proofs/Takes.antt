@@ -7,7 +7,6 @@ use Rattle.window.specs.Numbers.{Numbers, put, stored, lookup}
 use Rattle.window.proofs.Laws.{put_anchor, raise_width, within_raise, length_stored, lookup_put_same, lookup_put_other, lookup_raise}
 use Rattle.packet.specs.Instructions.{Update, together}
 use Rattle.packet.specs.Datagrams.{Parcel}
-use Rattle.assembler.specs.Contents.{Contents}
 use Rattle.endpoint.specs.declared.answer.Taken.{Taken}
 use Rattle.endpoint.specs.declared.fault.TakeFault.{TakeFault}
 use Rattle.endpoint.specs.End.{Holding}

@@ -1,12 +1,9 @@
 -- Edges of the rules, computed from the definitions.
-use Rattle.std.specs.Prelude.{◌≡◌, ℕ, ◌+◌, Bool, true, false, List, [], ◌∷◌, replicate, None, Ok, Err, slice_set, refl}
-use Rattle.state.specs.Checksum.{checksum}
+use Rattle.std.specs.Prelude.{◌≡◌, ℕ, true, List, [], ◌∷◌, replicate, None, Ok, Err, slice_set, refl}
 use Rattle.state.specs.Check.{sum_bytes}
-use Rattle.state.specs.Kind.{Kind}
 use Rattle.journal.specs.declared.entry.Entry.TheVariants.{Key}
 use Rattle.journal.specs.Journals.{journal_kind}
 use Rattle.screen.specs.Screen.{screen_kind, blank, drawn_at, settled}
-use Rattle.window.specs.Numbers.{Numbers}
 use Rattle.packet.specs.declared.datagram.Direction.TheVariants.{TowardDepot}
 use Rattle.packet.specs.declared.refusal.InstructionFault.TheVariants.{NumbersApart}
 use Rattle.packet.specs.Instructions.{Update, instruction_bytes, read_instruction}

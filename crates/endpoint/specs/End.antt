@@ -1,7 +1,6 @@
 -- An end of the protocol by its contents: what it keeps between calls, and how it is opened, changed and looked at.
-use Rattle.std.specs.Prelude.{ℕ, ◌-◌, ◌%◌, max, Bool, true, false, cond, ◌&&◌, List, length, replicate, Some, None, Ok, Err, Option, Result, ◌==◌, nat_le, slice_set}
+use Rattle.std.specs.Prelude.{ℕ, Bool, cond, ◌&&◌, List, length, replicate, None, Ok, Err, Option, Result, ◌==◌, nat_le, slice_set}
 use Rattle.state.specs.Kind.{Kind}
-use Rattle.window.specs.declared.answers.Lookup.{Lookup}
 use Rattle.window.specs.declared.answers.Lookup.TheVariants.{Held, Missing}
 use Rattle.window.specs.Numbers.{Numbers, empty, adding, lookup}
 use Rattle.packet.specs.declared.datagram.Direction.{Direction}

@@ -1,5 +1,5 @@
 -- A tap on its way from the reader to the depot, computed from the definitions.
-use Rattle.std.specs.Prelude.{◌≡◌, ℕ, List, [], ◌∷◌, take, replicate, Ok, Err, Result, refl}
+use Rattle.std.specs.Prelude.{◌≡◌, ℕ, List, [], ◌∷◌, take, replicate, Ok, refl}
 use Rattle.state.specs.Check.{check_kind}
 use Rattle.state.specs.Kind.{Kind}
 use Rattle.journal.specs.declared.entry.Entry.TheVariants.{Tap}
@@ -8,7 +8,7 @@ use Rattle.screen.specs.Screen.{screen_kind}
 use Rattle.packet.specs.declared.datagram.Direction.TheVariants.{TowardDepot, TowardReader}
 use Rattle.endpoint.specs.declared.answer.Ticked.TheVariants.{Idle, Sent}
 use Rattle.endpoint.specs.declared.answer.Taken.TheVariants.{Shown}
-use Rattle.endpoint.specs.End.{Holding, End, fresh, with_current, changed, looked}
+use Rattle.endpoint.specs.End.{Holding, fresh, with_current, changed, looked}
 use Rattle.endpoint.specs.Ticking.{AfterTick, ticked}
 use Rattle.endpoint.specs.Taking.{AfterTake, taken}
 

@@ -1,5 +1,5 @@
 -- A take: what becomes of bytes that came over the radio.
-use Rattle.std.specs.Prelude.{ℕ, max, Bool, true, false, cond, List, Some, None, Ok, Err, Option, Result, nat_le, nat_lt}
+use Rattle.std.specs.Prelude.{ℕ, max, cond, List, Some, None, Ok, Err, Option, Result, nat_le, nat_lt}
 use Rattle.state.specs.declared.fault.StateFault.{StateFault}
 use Rattle.state.specs.Kind.{Kind}
 use Rattle.window.specs.declared.answers.Lookup.{Lookup}

@@ -1,5 +1,5 @@
 -- A tick: whether it is due, which instruction goes out, and what it leaves.
-use Rattle.std.specs.Prelude.{ℕ, zero, suc, ◌+◌, ◌-◌, ◌%◌, max, Bool, true, false, cond, not, ◌&&◌, List, length, None, Ok, Err, Result, ◌==◌, nat_le, nat_lt, slice_index, slice_set}
+use Rattle.std.specs.Prelude.{ℕ, zero, suc, ◌+◌, ◌-◌, ◌%◌, max, Bool, cond, not, ◌&&◌, List, length, None, Ok, Err, Result, ◌==◌, nat_le, nat_lt, slice_index, slice_set}
 use Rattle.state.specs.Kind.{Kind}
 use Rattle.window.specs.Numbers.{put, stored}
 use Rattle.packet.specs.declared.sending.Sent.{Sent as Count}

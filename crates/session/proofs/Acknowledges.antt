@@ -1,10 +1,10 @@
 -- A take keeps what holds of the direction in which the end sends: what is acknowledged may rise.
-use Rattle.std.proofs.Common.{◌≡◌, ℕ, ◌+◌, ◌<◌, ◌≤◌, max, Bool, true, false, cond, eqb, ◌⊎◌, List, [], ◌∷◌, length, Ok, Err, Result, sym, refl, ap, ◌∙◌, subst, inl, inr, ⊎_elim, arith}
+use Rattle.std.proofs.Common.{◌≡◌, ℕ, ◌+◌, ◌<◌, ◌≤◌, max, Bool, true, false, cond, eqb, ◌⊎◌, List, length, Ok, Err, Result, sym, refl, ap, ◌∙◌, subst, ⊎_elim, arith}
 use Rattle.std.proofs.lemmas.Bool.{cond-true, cases_lt, eq-eqb}
 use Rattle.state.specs.Kind.{Kind}
 use Rattle.packet.specs.declared.datagram.Direction.{Direction}
 use Rattle.packet.specs.declared.datagram.Direction.TheVariants.{TowardDepot, TowardReader}
-use Rattle.packet.specs.Pieces.{piece_count, piece}
+use Rattle.packet.specs.Pieces.{piece_count}
 use Rattle.packet.specs.Instructions.{Update, read_instruction}
 use Rattle.packet.specs.Datagrams.{Parcel, same_direction, datagram_bytes, read_datagram}
 use Rattle.packet.specs.Sendings.{parcel}

@@ -1,36 +1,33 @@
 -- The datagrams of one sending, taken in order by the second end: then it shows the first end's last number.
-use Rattle.std.proofs.Common.{◌≡◌, ℕ, zero, suc, ◌+◌, ◌<◌, ◌≤◌, max, Bool, true, false, ltb, ◌⊎◌, List, [], ◌∷◌, map, length, Ok, Err, Option, Result, sym, refl, ap, ◌∙◌, subst, inl, inr, ⊎_elim, arith}
+use Rattle.std.proofs.Common.{◌≡◌, ℕ, zero, suc, ◌+◌, ◌<◌, ◌≤◌, max, true, false, ltb, List, [], ◌∷◌, map, length, Ok, Err, Result, sym, refl, ap, ◌∙◌, subst, inl, inr, ⊎_elim, arith}
 use Rattle.std.specs.List.{range_with_len}
 use Rattle.std.proofs.lemmas.Bool.{and_from, eq-eqb, cases_Bool}
 use Rattle.state.specs.Kind.{Kind, Reaches}
-use Rattle.window.specs.declared.answers.Lookup.TheVariants.{Held}
-use Rattle.window.specs.Numbers.{put, lookup}
+use Rattle.window.specs.Numbers.{put}
 use Rattle.packet.specs.declared.datagram.Direction.{Direction}
-use Rattle.packet.specs.declared.datagram.Direction.TheVariants.{TowardDepot, TowardReader}
 use Rattle.packet.specs.Pieces.{piece_count}
-use Rattle.packet.specs.Instructions.{Update, together, instruction_bytes, read_instruction}
-use Rattle.packet.specs.Datagrams.{same_direction, datagram_bytes, read_datagram}
-use Rattle.packet.specs.Sendings.{parcel, datagrams_of}
-use Rattle.packet.proofs.Layouts.{instruction_length, instruction_back}
+use Rattle.packet.specs.Instructions.{Update, instruction_bytes}
+use Rattle.packet.specs.Datagrams.{datagram_bytes, read_datagram}
+use Rattle.packet.specs.Sendings.{parcel}
+use Rattle.packet.proofs.Layouts.{instruction_length}
 use Rattle.packet.proofs.Sendings.{datagram_read}
-use Rattle.assembler.specs.Contents.{collects, held_of}
+use Rattle.assembler.specs.Contents.{held_of}
 use Rattle.assembler.specs.Assembling.{gathered}
 use Rattle.endpoint.specs.declared.answer.Taken.{Taken}
 use Rattle.endpoint.specs.declared.answer.Taken.TheVariants.{Part, Shown, Filled, Again, Baseless}
 use Rattle.endpoint.specs.declared.fault.TakeFault.{TakeFault}
-use Rattle.endpoint.specs.End.{End, Holding, latest, both_fit}
+use Rattle.endpoint.specs.End.{Holding, latest}
 use Rattle.endpoint.specs.Taking.{kept, pending_from, taken}
-use Rattle.endpoint.specs.Chain.{after_take}
 use Rattle.endpoint.proofs.Ways.{Called}
 use Rattle.endpoint.proofs.Keeping.{in_order}
-use Rattle.endpoint.proofs.Takes.{TakeLeaves, take_leaves, settled_anchor}
-use Rattle.endpoint.proofs.Arriving.{Midway, midway_start, midway_more, arrives_again, arrives_land}
+use Rattle.endpoint.proofs.Takes.{take_leaves, settled_anchor}
+use Rattle.endpoint.proofs.Arriving.{Midway, midway_more, arrives_again, arrives_land}
 use Rattle.session.specs.History as history
 use Rattle.session.specs.History.{Past, opposite}
-use Rattle.session.specs.Runs.{World, Call, change, tick, take, look, Step, first, second, step, SupposedOf, Among, flipped}
-use Rattle.session.specs.Law.{Takes, none, looks, takes, IsLook, own}
+use Rattle.session.specs.Runs.{World, take, Step, second, step, SupposedOf, Among}
+use Rattle.session.specs.Law.{Takes, none, looks, takes, own}
 use Rattle.session.proofs.Shared.{among_turned, look_stays, opposite_other}
-use Rattle.session.proofs.Invariant.{state, Inv, Joined, Instructs, Holds}
+use Rattle.session.proofs.Invariant.{state, Inv, Instructs}
 
 -- what a take leaves of a history
 pub record Remains {K : Kind} (p q : Past K) : Type 0 where

@@ -1,13 +1,12 @@
 -- Two exchanges bring both ends up to date, from what half an exchange leaves.
-use Rattle.std.proofs.Common.{◌≡◌, ℕ, ◌+◌, ◌<◌, ◌≤◌, Bool, true, List, Some, None, Ok, Err, Option, Result, sym, refl, ap, ◌∙◌, subst, arith}
+use Rattle.std.proofs.Common.{◌≡◌, ℕ, ◌+◌, ◌<◌, ◌≤◌, Some, Ok, Option, Result, ap, ◌∙◌, arith}
 use Rattle.state.specs.Kind.{Kind}
 use Rattle.endpoint.specs.declared.fault.CallRefusal.{CallRefusal}
-use Rattle.endpoint.specs.End.{Holding, looked}
-use Rattle.session.specs.History.{Past}
+use Rattle.endpoint.specs.End.{looked}
 use Rattle.session.specs.Law.{Fits, Half, Exchange, UpToDate}
 use Rattle.session.specs.Runs.{World, flipped}
 use Rattle.session.proofs.Shared.{inv_flip}
-use Rattle.session.proofs.Invariant.{Inv, Joined, state, state_of}
+use Rattle.session.proofs.Invariant.{Inv, state_of}
 use Rattle.session.proofs.Safety.{looks}
 
 -- a world in which the first end can tick

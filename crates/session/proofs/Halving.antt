@@ -1,5 +1,5 @@
 -- What half an exchange leaves: a tick after a silence, and all of its datagrams taken.
-use Rattle.std.proofs.Common.{◌≡◌, ℕ, zero, suc, ◌+◌, ◌<◌, ◌≤◌, max, Bool, true, false, cond, ◌&&◌, eqb, ltb, ◌⊎◌, List, [], ◌∷◌, ◌++◌, length, get_or, Some, None, Ok, Err, Option, Result, sym, refl, ap, ◌∙◌, subst, inl, inr, arith}
+use Rattle.std.proofs.Common.{◌≡◌, ℕ, zero, suc, ◌+◌, ◌<◌, ◌≤◌, max, false, ◌&&◌, eqb, ltb, List, [], ◌∷◌, ◌++◌, length, get_or, Some, None, Ok, Err, Option, Result, sym, refl, ap, ◌∙◌, subst, inl, inr, arith}
 use Rattle.std.proofs.lemmas.Bool.{and_right, cases_Bool, cond-false, cond-true, eq-eqb, le-ltb}
 use Rattle.state.specs.Kind.{Kind, Exact, Itself, Onward, Reaches}
 use Rattle.packet.specs.declared.refusal.InstructionFault.{InstructionFault}
@@ -11,16 +11,16 @@ use Rattle.packet.proofs.Layouts.{instruction_back}
 use Rattle.packet.proofs.Sendings.{datagram_nth, datagram_count}
 use Rattle.assembler.specs.Contents.{Held, Contents, nothing, collecting, collects, held_of, held_as}
 use Rattle.assembler.specs.Assembling.{gathered}
-use Rattle.endpoint.specs.End.{End, Holding, latest}
+use Rattle.endpoint.specs.End.{Holding, latest}
 use Rattle.endpoint.specs.Ticking.{AfterTick, ticked, update}
 use Rattle.endpoint.proofs.Ways.{Sends, sent_as}
 use Rattle.endpoint.proofs.Ticks.{TickLeaves, tick_leaves, update_back, some_pieces}
 use Rattle.session.specs.History.{Past, opposite, after_tick}
-use Rattle.session.specs.Law.{Fits, Half, Takes, IsLook, own, wrote_by}
+use Rattle.session.specs.Law.{Fits, Half, Takes, own, wrote_by}
 use Rattle.session.specs.Law.Half.{looks, ticks}
-use Rattle.session.specs.Runs.{World, flipped, Among, tick, Step, first, second, step, SupposedOf}
+use Rattle.session.specs.Runs.{World, Among, tick, Step, first, step, SupposedOf}
 use Rattle.session.proofs.Shared.{look_stays}
-use Rattle.session.proofs.Invariant.{Inv, Joined, Instructs}
+use Rattle.session.proofs.Invariant.{Inv, Instructs}
 use Rattle.session.proofs.Arrival.{Ready as Arriving, Rests, Final, rest_taken, datagrams_from}
 use Rattle.session.proofs.Catching.{Ready, Halfway}
 use Rattle.session.proofs.Silence as silence

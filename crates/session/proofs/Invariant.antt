@@ -12,7 +12,7 @@ use Rattle.assembler.specs.Assembling.{gathered}
 use Rattle.endpoint.specs.End.{End, Holding}
 use Rattle.endpoint.specs.Own.{Own}
 use Rattle.session.specs.History.{Past, opposite, ack_in}
-use Rattle.session.specs.Runs.{World, flipped, Among}
+use Rattle.session.specs.Runs.{World, Among}
 
 -- the state fixed under a number, and the start where none is
 abbrev pub state_of : (K : Kind) → Option K.Contents → K.Contents

@@ -1,31 +1,30 @@
 -- A take keeps what holds between two ends, where the end that takes receives.
-use Rattle.std.proofs.Common.{◌≡◌, ℕ, ◌+◌, ◌<◌, ◌≤◌, max, Bool, true, false, cond, not, ◌&&◌, eqb, ltb, leb, ◌⊎◌, List, [], ◌∷◌, length, replicate, Some, None, Ok, Err, Option, Result, sym, refl, ap, ◌∙◌, subst, inl, inr, ⊎_elim, arith}
+use Rattle.std.proofs.Common.{◌≡◌, ℕ, ◌+◌, ◌≤◌, max, Bool, true, false, cond, ◌&&◌, eqb, ltb, leb, ◌⊎◌, List, length, replicate, None, Ok, Err, Result, sym, refl, ap, ◌∙◌, subst, ⊎_elim, arith}
 use Rattle.std.proofs.lemmas.Bool.{cases_Bool, cases_eq, cond-true, cond-false, and_parts, and_from, and_right, le-leb, leb-true, eq-eqb, eqb-true, both_ways}
 use Rattle.std.proofs.lemmas.List.{length-replicate}
 use Rattle.state.specs.Kind.{Kind, Reaches}
-use Rattle.window.specs.declared.answers.Lookup.{Lookup}
-use Rattle.window.specs.declared.answers.Lookup.TheVariants.{Held, Missing}
-use Rattle.window.specs.Numbers.{Numbers, put, lookup}
+use Rattle.window.specs.declared.answers.Lookup.TheVariants.{Held}
+use Rattle.window.specs.Numbers.{Numbers, lookup}
 use Rattle.window.proofs.Laws.{put_other, length_stored}
 use Rattle.packet.specs.declared.datagram.Direction.{Direction}
 use Rattle.packet.specs.declared.datagram.Direction.TheVariants.{TowardDepot, TowardReader}
 use Rattle.packet.specs.declared.refusal.ReadFault.{ReadFault}
 use Rattle.packet.specs.declared.refusal.InstructionFault.{InstructionFault}
-use Rattle.packet.specs.Pieces.{piece_count, piece}
-use Rattle.packet.specs.Instructions.{Update, together, instruction_bytes, read_instruction}
-use Rattle.packet.specs.Datagrams.{Parcel, same_direction, datagram_bytes, read_datagram}
+use Rattle.packet.specs.Pieces.{piece_count}
+use Rattle.packet.specs.Instructions.{Update, read_instruction}
+use Rattle.packet.specs.Datagrams.{Parcel, same_direction, read_datagram}
 use Rattle.packet.specs.Sendings.{parcel}
 use Rattle.packet.proofs.Layouts.{instruction_length, instruction_back}
 use Rattle.packet.proofs.Sendings.{datagram_read}
-use Rattle.assembler.specs.Contents.{Contents, nothing, collecting, collects, held_of, none}
-use Rattle.assembler.specs.Offers.{Outcome, refused, partly, wholly, offered}
+use Rattle.assembler.specs.Contents.{Contents, collecting, collects, held_of, none}
+use Rattle.assembler.specs.Offers.{Outcome, partly, wholly, offered}
 use Rattle.assembler.specs.Assembling.{every, gathered, also}
 use Rattle.assembler.proofs.Assembling.{assembles}
 use Rattle.assembler.proofs.Offering.{held_own, held_other}
 use Rattle.endpoint.specs.declared.answer.Taken.{Taken}
 use Rattle.endpoint.specs.declared.answer.Taken.TheVariants.{Part, Shown, Filled, Again, Baseless}
 use Rattle.endpoint.specs.declared.fault.TakeFault.{TakeFault}
-use Rattle.endpoint.specs.End.{End, Holding, both_fit}
+use Rattle.endpoint.specs.End.{Holding}
 use Rattle.endpoint.specs.Taking as take
 use Rattle.endpoint.specs.Taking.{AfterTake, collected, kept, landed, taken}
 use Rattle.endpoint.specs.Own.{Own}
@@ -35,8 +34,8 @@ use Rattle.endpoint.proofs.Keeping.{found_held, kept_is}
 use Rattle.endpoint.proofs.Takes.{take_refused, landed_anchor}
 use Rattle.endpoint.proofs.Honest.{Honest, HeldTrue, land_true}
 use Rattle.endpoint.proofs.Halves.{own_refused}
-use Rattle.session.specs.History.{Past, opposite, ack_in, piece_in, after_take}
-use Rattle.session.specs.Runs.{Lent, handed, returned, lent_to, takes, taken_to, Among}
+use Rattle.session.specs.History.{Past, ack_in, piece_in, after_take}
+use Rattle.session.specs.Runs.{Lent, returned, lent_to, takes, taken_to, Among}
 use Rattle.session.proofs.Shared.{among_turned, opposite_apart}
 use Rattle.session.proofs.Invariant.{state, Instructs, Carries, Gathers, Holds, Acks, Joined}
 

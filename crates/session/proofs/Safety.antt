@@ -1,16 +1,14 @@
 -- What the invariant says of what is shown, and that the number shown never falls.
-use Rattle.std.proofs.Common.{◌≡◌, ℕ, ◌≤◌, Bool, true, false, cond, eqb, List, [], ◌∷◌, ◌++◌, length, Some, None, Ok, Err, Option, Result, sym, refl, ap, ◌∙◌, subst, le_trans, le_refl, arith}
-use Rattle.std.proofs.lemmas.Bool.{cond-true, cond-false, eq-eqb}
+use Rattle.std.proofs.Common.{◌≡◌, ℕ, ◌≤◌, Bool, true, false, cond, eqb, List, [], ◌∷◌, ◌++◌, length, Some, Ok, Err, Result, refl, ap, ◌∙◌, subst, le_trans, le_refl, arith}
+use Rattle.std.proofs.lemmas.Bool.{cond-true, eq-eqb}
 use Rattle.state.specs.Kind.{Kind}
 use Rattle.window.specs.declared.answers.Lookup.{Lookup}
 use Rattle.window.specs.declared.answers.Lookup.TheVariants.{Held, Missing}
 use Rattle.window.specs.Numbers.{lookup}
 use Rattle.endpoint.specs.declared.fault.CallRefusal.{CallRefusal}
 use Rattle.endpoint.specs.declared.fault.CallRefusal.TheVariants.{WrongStore}
-use Rattle.endpoint.specs.End.{End, Holding, changed, looked, state_at, with_current}
+use Rattle.endpoint.specs.End.{Holding, changed, looked, state_at, with_current}
 use Rattle.endpoint.specs.Own.{Own}
-use Rattle.endpoint.specs.Ticking.{ticked}
-use Rattle.endpoint.specs.Taking.{taken}
 use Rattle.endpoint.specs.declared.fault.ChangeRefusal.TheVariants.{NotFollowing}
 use Rattle.endpoint.proofs.Takes.{take_leaves}
 use Rattle.endpoint.proofs.Ticks.{tick_leaves}

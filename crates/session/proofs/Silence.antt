@@ -3,11 +3,8 @@ use Rattle.std.proofs.Common.{◌≡◌, ℕ, ◌+◌, ◌-◌, ◌<◌, ◌≤�
 use Rattle.std.proofs.lemmas.Bool.{cases_Bool, cases_lt, cond-true, cond-false, cond_both, and_from, and_cases, not-false, both_ways, eq-eqb, lt-leb, not_from_false}
 use Rattle.state.specs.Kind.{Kind, Exact, Itself, Onward}
 use Rattle.window.specs.declared.answers.Lookup.TheVariants.{Held, Missing}
-use Rattle.packet.specs.declared.datagram.Direction.{Direction}
-use Rattle.packet.specs.declared.datagram.Direction.TheVariants.{TowardDepot, TowardReader}
 use Rattle.packet.specs.Pieces.{Piece, piece, piece_count}
 use Rattle.packet.specs.Instructions.{Update, instruction_bytes}
-use Rattle.packet.specs.Datagrams.{same_direction}
 use Rattle.packet.specs.Sendings.{datagrams_of}
 use Rattle.packet.proofs.Layouts.{instruction_length}
 use Rattle.packet.proofs.Sendings.{datagram_read}

@@ -1,13 +1,13 @@
 -- The session law, put together from what a call keeps and what half an exchange leaves.
-use Rattle.std.proofs.Common.{◌≡◌, ℕ, ◌<◌, ◌≤◌, List, [], ◌∷◌, ◌++◌, Ok, sym, refl, ap, ◌∙◌, subst, arith}
+use Rattle.std.proofs.Common.{◌≡◌, ℕ, ◌≤◌, List, Ok, sym, subst}
 use Rattle.state.specs.Kind.{Kind}
 use Rattle.packet.specs.declared.datagram.Direction.{Direction}
 use Rattle.endpoint.specs.End.{Holding, opened}
-use Rattle.session.specs.History.{Past, begun, opposite}
-use Rattle.session.specs.Law.{Fits, Half, Exchange, TwoLeft, CatchesUp, NoStepBack, Holds, SessionLaw}
+use Rattle.session.specs.History.{begun, opposite}
+use Rattle.session.specs.Law.{Half, TwoLeft, NoStepBack, Holds, SessionLaw}
 use Rattle.session.specs.Runs.{World, flipped, Step, step, run, SupposedOf, SupposedAll}
 use Rattle.session.proofs.Shared.{inv_flip}
-use Rattle.session.proofs.Invariant.{Inv, Joined}
+use Rattle.session.proofs.Invariant.{Inv}
 use Rattle.session.proofs.Kept.{Keeps, inv_step}
 use Rattle.session.proofs.Safety.{right, acknowledged, run_keeps, never_back}
 use Rattle.session.proofs.Catching.{Ready, Halfway, two_exchanges}

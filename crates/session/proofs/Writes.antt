@@ -7,10 +7,9 @@ use Rattle.state.specs.Kind.{Kind, Itself}
 use Rattle.window.specs.declared.answers.Lookup.TheVariants.{Held}
 use Rattle.window.specs.Numbers.{lookup}
 use Rattle.packet.specs.declared.datagram.Direction.{Direction}
-use Rattle.packet.specs.declared.datagram.Direction.TheVariants.{TowardDepot, TowardReader}
 use Rattle.packet.specs.Pieces.{piece, piece_count}
 use Rattle.packet.specs.Instructions.{Update, instruction_bytes}
-use Rattle.packet.specs.Datagrams.{same_direction, datagram_bytes}
+use Rattle.packet.specs.Datagrams.{datagram_bytes}
 use Rattle.packet.specs.Sendings.{parcel, datagrams_of}
 use Rattle.packet.proofs.Layouts.{instruction_length}
 use Rattle.packet.proofs.Sendings.{datagram_read}

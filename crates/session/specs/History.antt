@@ -1,12 +1,12 @@
 -- What is known of an end from its calls alone: what it was changed to, what it wrote, what was acknowledged.
-use Rattle.std.specs.Prelude.{ℕ, ◌+◌, ◌*◌, max, Bool, true, false, cond, List, [], ◌∷◌, ◌++◌, map, take, drop, Some, None, Ok, Err, Option, Result, ◌==◌}
+use Rattle.std.specs.Prelude.{ℕ, ◌*◌, max, false, cond, List, [], ◌∷◌, ◌++◌, map, take, drop, Some, None, Ok, Err, Option, Result, ◌==◌}
 use Rattle.std.specs.List.{range_with_len, flat_map}
 use Rattle.state.specs.Kind.{Kind}
 use Rattle.packet.specs.declared.datagram.Direction.{Direction}
 use Rattle.packet.specs.declared.datagram.Direction.TheVariants.{TowardDepot, TowardReader}
 use Rattle.packet.specs.declared.sending.Sent.{Sent as Count}
 use Rattle.packet.specs.Pieces.{Piece}
-use Rattle.packet.specs.Instructions.{Update, read_instruction}
+use Rattle.packet.specs.Instructions.{read_instruction}
 use Rattle.packet.specs.Datagrams.{Parcel, read_datagram}
 use Rattle.endpoint.specs.declared.answer.Ticked.{Ticked}
 use Rattle.endpoint.specs.declared.answer.Ticked.TheVariants.{Idle, Sent}
@@ -15,7 +15,6 @@ use Rattle.endpoint.specs.declared.answer.Taken.TheVariants.{Part, Shown, Filled
 use Rattle.endpoint.specs.declared.fault.TickRefusal.{TickRefusal}
 use Rattle.endpoint.specs.declared.fault.TakeFault.{TakeFault}
 use Rattle.endpoint.specs.declared.fault.ChangeRefusal.{ChangeRefusal}
-use Rattle.endpoint.specs.End.{End}
 
 -- the history of an end that sends states of the kind K
 pub record Past (K : Kind) : Type 0 where

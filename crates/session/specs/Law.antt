@@ -1,17 +1,16 @@
 -- The session law: what two ends can count on over any radio, about what they show and how they catch up.
-use Rattle.std.specs.Prelude.{◌≡◌, ℕ, ◌+◌, ◌<◌, ◌≤◌, Bool, true, false, ◌⊎◌, List, [], ◌∷◌, ◌++◌, map, length, Some, None, Ok, Err, Option, Result}
+use Rattle.std.specs.Prelude.{◌≡◌, ℕ, ◌+◌, ◌≤◌, List, [], ◌∷◌, ◌++◌, length, Some, Ok, Err, Result}
 use Rattle.state.specs.Kind.{Kind}
 use Rattle.window.specs.declared.answers.Lookup.TheVariants.{Held}
 use Rattle.window.specs.Numbers.{lookup}
 use Rattle.packet.specs.declared.datagram.Direction.{Direction}
-use Rattle.packet.specs.declared.sending.Sent.{Sent as Count}
 use Rattle.endpoint.specs.declared.answer.Ticked.TheVariants.{Idle, Sent}
-use Rattle.endpoint.specs.End.{End, Holding, latest, opened, looked}
+use Rattle.endpoint.specs.End.{Holding, latest, opened, looked}
 use Rattle.endpoint.specs.declared.answer.Ticked.{Ticked}
 use Rattle.endpoint.specs.declared.fault.TickRefusal.{TickRefusal}
 use Rattle.endpoint.specs.Ticking.{AfterTick, ticked}
 use Rattle.session.specs.History.{Past, begun, opposite, datagrams_in}
-use Rattle.session.specs.Runs.{Lent, Call, change, tick, take, look, World, flipped, Step, first, second, step, run, SupposedAll}
+use Rattle.session.specs.Runs.{Lent, change, tick, take, look, World, flipped, Step, first, second, step, run, SupposedAll}
 
 module _ {K L : Kind} where
   -- y shows a state that x has fixed, exactly as it was fixed

@@ -1,7 +1,6 @@
 -- Runs: whatever is called on two ends, in whatever order, and what becomes of them and of their histories.
-use Rattle.std.specs.Prelude.{◌≡◌, ℕ, Bool, true, false, cond, ◌⊎◌, List, [], ◌∷◌, replicate, Ok, Err, Result, ◌==◌}
+use Rattle.std.specs.Prelude.{◌≡◌, ℕ, cond, ◌⊎◌, List, [], ◌∷◌, replicate, Ok, Err, Result, ◌==◌}
 use Rattle.state.specs.Kind.{Kind}
-use Rattle.packet.specs.declared.datagram.Direction.{Direction}
 use Rattle.endpoint.specs.declared.fault.ChangeRefusal.{ChangeRefusal}
 use Rattle.endpoint.specs.declared.fault.TakeFault.{TakeFault}
 use Rattle.endpoint.specs.End.{End, Holding, changed}

@@ -48,11 +48,11 @@ fn run(rt: &impl Print, kind: &str, diff: &[u8]) -> io::Result<()> {
             Some(screen) => show_screen(rt, &screen),
             None => Ok(()),
         },
-        "checked-journal" => match applied::<CheckState<Journal>>(rt, diff)? {
+        "checked-journal" => match applied::<Check<Journal>>(rt, diff)? {
             Some(checked) => show_journal(rt, checked.inner()),
             None => Ok(()),
         },
-        "checked-screen" => match applied::<CheckState<Screen>>(rt, diff)? {
+        "checked-screen" => match applied::<Check<Screen>>(rt, diff)? {
             Some(checked) => show_screen(rt, checked.inner()),
             None => Ok(()),
         },

@@ -43,7 +43,7 @@ pub(crate) fn show<K: State>(
 ) -> io::Result<()> {
     let checked = Check::over(*state);
     let mut buffer = [0u8; 2048];
-    match checked.diff(&CheckState::<K>::start(), &mut buffer) {
+    match checked.diff(&Check::<K>::start(), &mut buffer) {
         Ok(n) if n <= 2048 && n >= 2 => {
             let diff = &buffer[0..n];
             let sum = internet_checksum(&diff[0..n - 2]);
