@@ -1,12 +1,12 @@
 #!/usr/bin/env bash
 # Makes a trace of a million lines, or of as many as the first argument says, and times the program
-# trace_table on it: it reads every line and writes what was read. Build it by `rt check trace_table`.
+# trace_table on it: it reads every line and writes what was read. Build it by `rt run` in crates/trace_table.
 set -eu
 cd "$(dirname "$0")/.."
 lines=${1:-1000000}
-program=target/bin/trace_table
+program=crates/trace_table/out/trace_table
 if [ ! -x "$program" ]; then
-    echo "no $program: run rt check trace_table first" >&2
+    echo "no $program: run rt run in crates/trace_table first" >&2
     exit 2
 fi
 trace=$(mktemp)
