@@ -5,7 +5,8 @@ usage: python3 tools/spell_names.py        once, at the top of the repository, r
 
 It takes each name that specs/ and proofs/ of a crate define, and writes its words apart by '_' wherever the name is cited:
 in proofs, in clauses and ghost items of the sources, in must-fail edits, and between backticks in the documents.
-Names of functions in src/, names that the check makes, strings, inputs and outputs stay. It prints names that fall together.
+Names of functions in src/, names that the check makes, inputs and outputs stay. It prints names that fall together.
+Where it has run already it does nothing: a second run would take names of the library, and new ones, for old spellings.
 """
 
 import collections
@@ -74,6 +75,8 @@ def from_std(text):
 
 
 def main():
+    if os.path.exists(os.path.join("docs", "PORT.md")):
+        return "the names are respelled already: see docs/PORT.md"
     own, fields, home = {}, set(), collections.defaultdict(set)
     for path in files(".antt"):
         for name, field in definitions(read(path)):
