@@ -8,6 +8,7 @@
 A place is a line of the source (or a group of functions) that one of the patterns below finds;
 a comment `// Stays: REASON` above a place marks it as kept, and it is counted apart.
 """
+import difflib
 import re
 import subprocess
 import sys
@@ -176,7 +177,8 @@ def scan(rev):
         for m in re.finditer(r"\b(while|loop)\b[^\n]*\{", text):
             place(3, "while", name, text, m.start())
         for m in re.finditer(r"\bfor [^\n]* in [^\n]*(\.\.|enumerate\(\))[^\n]*\{", text):
-            place(3, "for over an index", name, text, m.start())
+            if "chunks(" not in m.group():
+                place(3, "for over an index", name, text, m.start())
         for m in re.finditer(r"\bfor [^\n]* in [^\n]*\{", text):
             a, b = block(text, m.start())
             if "enumerate()" in m.group() or ".." in m.group():
@@ -200,20 +202,20 @@ def scan(rev):
                 place(4, "== under another name", name, text, at)
             if re.search(r"-> &'static str", header) and "match" in body:
                 place(4, "words of an enum", name, text, at)
-            if re.search(r"\bfn (of|from_\w+)\(", header):
+            if re.search(r"\bfn (of|from_\w+)\(", header) or re.search(r"\((?:letter|word): [^)]*\) -> Option<", header) and "match" in body:
                 place(4, "a conversion", name, text, at)
             if re.search(r"-> u8\b", header) and re.search(r"match self \{", body) and not re.search(r"\{ \.\. \}|\(\w+\) =>|\(_\)", body):
                 place(4, "an enum's numbers by a match", name, text, at)
             # 2: functions of one shape
             key = shape(body)
-            if len(key) >= 14 and "tests" not in name:
+            if len(key) >= 16 and "tests" not in name:
                 shapes[key].append((name, text, at, fname))
             # 2: functions that share a name, or a name but for a size or a kind
             family = re.sub(r"(^|_)(two|four|eight|journal|screen)(?=_|$)", r"\1*", fname)
             if fname not in ("main", "new", "number", "fmt", "from", "next"):
                 flat = re.sub(r"\s+", " ", header)
                 parameters = len(split_params(header))
-                named[(family, "self" in flat, parameters, "->" in flat)].append((name, text, at, fname))
+                named[(family, "self" in flat, parameters, "->" in flat)].append((name, text, at, fname, key))
             # 5: facts and parameters
             key = (crate, fname, at)
             where[key] = (name, text, at)
@@ -226,8 +228,8 @@ def scan(rev):
             for i, a in enumerate(params):
                 for b in params[i + 1:]:
                     together[(crate, a, b)].add(key)
-            # 7: a step chosen by a word
-            for m in re.finditer(r"match (kind|word|name|mode|op|step) \{", body):
+            # 7: a step chosen by a word, and not only a value
+            for m in [] if "-> Option<" in header else re.finditer(r"match (kind|word|name|mode|op|step) \{", body):
                 place(7, "a step chosen by a word", name, text, at, header.split("\n")[0])
         for m in re.finditer(r"\[\s*fn\(|: fn\(|\bdyn\b", text):
             place(7, "a table of functions", name, text, m.start())
@@ -236,6 +238,8 @@ def scan(rev):
             names = [f"{n}:{line_of(t, a)} {f}" for n, t, a, f in group]
             PLACES[2].append(("functions of one shape", f"{len(group)}", "; ".join(names), any(stays(t, a) for n, t, a, f in group)))
     for (family, _, _, _), group in named.items():
+        first = group[0][4]
+        group = [g[:4] for g in group if difflib.SequenceMatcher(None, first, g[4]).ratio() >= 0.7]
         files = {n for n, t, a, f in group}
         if len(group) > 1 and ("*" in family or len(files) > 1) and not ONE_TRAIT.fullmatch(family):
             names = [f"{n}:{line_of(t, a)} {f}" for n, t, a, f in group]

@@ -9,14 +9,8 @@ use Rattle.assembler.specs.declared.half.Last.{Last}
 use Rattle.assembler.specs.Offers.{some, same_mark, repeats, against, clash, contradicts}
 use Rattle.assembler.specs.Marks.{past_last}
 use Rattle.assembler.specs.Reading.{bit_at, is_last, size_of, in_buffer, marked, ended}
-use Rattle.assembler.proofs.Bits.{above_bits, clear_above}
+use Rattle.assembler.proofs.Bits.{above_bits, clear_above, same_mark_is}
 use Rattle.assembler.proofs.Tests.{some_none, none_some, some_at, some_finds, end, held_small, last_held, last_high, last_one, last_small}
-
-same_mark_lem : (a b : Bool) → same_mark a b ≡ true → a ≡ b
-same_mark_lem true true h = refl
-same_mark_lem true false h = sym h
-same_mark_lem false true h = h
-same_mark_lem false false h = refl
 
 pub mark_same : (a : Bool) → same_mark a a ≡ true
 mark_same true = refl
@@ -36,10 +30,10 @@ module _ (held : ℕ) (last : Option Last) (buf : List ℕ) (p : Piece) where
 
   -- the test under a number that is held
   at_held : (k : ℕ) → bit_at held k ≡ true → test k ≡ against k (in_buffer last buf k) p
-  at_held k b = ap (λ t. clash k (cond t (Some (in_buffer last buf k)) None) p) b
+  at_held k b = rw b refl
 
   at_none : (k : ℕ) → bit_at held k ≡ false → test k ≡ false
-  at_none k b = ap (λ t. clash k (cond t (Some (in_buffer last buf k)) None) p) b
+  at_none k b = rw b refl
 
   abbrev others : Bool → Bool → Bool → Bool
   others own low high = (own && (p.last || low)) || (p.last && high)
@@ -73,7 +67,7 @@ module _ (held : ℕ) (last : Option Last) (buf : List ℕ) (p : Piece) where
 
     pub agrees_from : contradicts (marked held last buf) p ≡ false → Agrees
     unfolding contradicts
-    agrees_from free = record { mark = λ b. same_mark_lem _ _ (kept b).0; bytes = λ b. (bytes_eq-Decides _ _).0 (kept b).1; middle = λ k t ne. (apart k t ne).0; below = λ k t ne. omega (arith, ltb-false k p.number (apart k t ne).1, ne); top = top }
+    agrees_from free = record { mark = λ b. same_mark_is _ _ (kept b).0; bytes = λ b. (bytes_eq-Decides _ _).0 (kept b).1; middle = λ k t ne. (apart k t ne).0; below = λ k t ne. omega (arith, ltb-false k p.number (apart k t ne).1, ne); top = top }
       where
         each : (k : ℕ) → k < 8 → test k ≡ false
         each = some_none 8 test free
@@ -119,7 +113,7 @@ module _ (held : ℕ) (last : Option Last) (buf : List ℕ) (p : Piece) where
     agree : bit_at held p.number ≡ true → repeats (in_buffer last buf p.number) p ≡ true → Agrees
     agree b r =
         let both = and_parts (same_mark (is_last last p.number) p.last) (bytes_eq (take (size_of last p.number) (drop (256 * p.number) buf)) p.contents) r in
-        let mark : is_last last p.number ≡ p.last = same_mark_lem _ _ both.0 in
+        let mark : is_last last p.number ≡ p.last = same_mark_is _ _ both.0 in
         record {
           mark = λ _. mark;
           bytes = λ _. (bytes_eq-Decides _ _).0 both.1;

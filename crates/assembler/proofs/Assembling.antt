@@ -3,7 +3,7 @@ use Rattle.std.proofs.Common.{◌≡◌, ℕ, zero, suc, ◌+◌, ◌-◌, ◌*�
 use mathlib.Core.Path.{fun_ext}
 use Rattle.std.proofs.lemmas.Slice.Eq.{bytes_eq-Decides}
 use Rattle.std.proofs.lemmas.List.{length-take, length-drop, take_all, drop-drop, take-append-drop}
-use Rattle.std.proofs.lemmas.Bool.{and_parts, and_from, and_right, and_cases, or_left, or_right, cases_order, cases_eq, cases_Bool, eqb-true, eqb-false, lt-ltb, eq-eqb, ne_eqb, ltb-true, cond-true, cond-false, true≢false, both_ways}
+use Rattle.std.proofs.lemmas.Bool.{and_parts, and_from, and_right, and_cases, or_left, or_right, cases_eq, cases_Bool, eqb-true, eqb-false, lt-ltb, eq-eqb, ne_eqb, ltb-true, cond-true, cond-false, true≢false, both_ways}
 use Rattle.std.proofs.lemmas.Bool.Decides.{nat_tests}
 use Rattle.packet.specs.Pieces.{piece, piece_count}
 use Rattle.assembler.specs.Contents.{Held, Contents, collecting, collects, held_of, held_as, adding, before, onward, from, joined}
@@ -11,13 +11,8 @@ use Rattle.assembler.specs.Offers.{Outcome, refused, partly, wholly, same_mark, 
 use Rattle.assembler.specs.Assembling.{every, occurs, gathered, also, offered_all, JoinsOn, StartsAnew, AnyOrder, RepeatsAddNothing, Assembles}
 use Rattle.assembler.proofs.Offering.{judged_free, held_other, held_own}
 use Rattle.assembler.proofs.Tests.{Formed, none_some, formed_is}
+use Rattle.assembler.proofs.Bits.{every_at}
 use Rattle.assembler.proofs.Agreeing.{mark_same}
-
-every_at : (n : ℕ) (f : ℕ → Bool) → every n f ≡ true → (k : ℕ) → k < n → f k ≡ true
-every_at zero f h k lt = absurd (omega arith)
-every_at (suc n) f h k lt =
-    let both = and_parts (f n) (every n f) h in
-    ⊎_elim (λ e. ap f e ∙ both.0) (⊎_elim (λ l. every_at n f both.1 k l) (λ g. absurd (omega arith))) (cases_order k n)
 
 every_from : (n : ℕ) (f : ℕ → Bool) → ((k : ℕ) → k < n → f k ≡ true) → every n f ≡ true
 every_from zero f h = refl

@@ -1,6 +1,6 @@
 -- A buffer in which a part was written anew.
 use Rattle.std.proofs.Common.{◌≡◌, ℕ, ◌+◌, ◌-◌, ◌*◌, ◌<◌, ◌≤◌, List, ◌++◌, length, take, drop, sym, refl, ap, ◌∙◌, ⊎_elim, arith}
-use Rattle.std.proofs.lemmas.List.{take_at, drop_at, take-take, take-append-le, drop-take, drop-drop, length-take-le, length-drop, length-append}
+use Rattle.std.proofs.lemmas.List.{take_at, drop_at, take-take, take-append-le, drop-take, drop-drop, length-take-le}
 use Rattle.std.proofs.lemmas.Bool.{cases_order}
 use Rattle.packet.specs.Pieces.{Piece}
 use Rattle.assembler.specs.Marks.{placed}
@@ -28,9 +28,6 @@ module _ (a : ℕ) (src buf : List ℕ) (room : a + length src ≤ length buf) w
       sym (drop-drop (length src) a put) ∙ ap (drop (length src)) (drop_at (take a buf) (src ++ drop (a + length src) buf) a front) ∙ drop_at src (drop (a + length src) buf) (length src) refl in
       ap (λ n. drop n put) (sym e) ∙ sym (drop-drop r (a + length src) put) ∙ ap (drop r) past ∙ drop-drop r (a + length src) buf ∙ ap (λ n. drop n buf) e
 
-  whole : length put ≡ length buf
-  whole = simp (length-append, length-drop) (omega (arith, front))
-
 module _ (buf : List ℕ) (p : Piece) (long : length buf ≡ 2048) (number : p.number < 8) (most : length p.contents ≤ 256) where
   room : 256 * p.number + length p.contents ≤ length buf
   room = omega arith
@@ -45,6 +42,3 @@ module _ (buf : List ℕ) (p : Piece) (long : length buf ≡ 2048) (number : p.n
       ⊎_elim (λ e. absurd (ne e))
       (⊎_elim (λ lt. below (256 * p.number) p.contents buf room (256 * k) m (omega arith)) (λ gt. ap (take m) (after (256 * p.number) p.contents buf room (256 * k) (omega arith))))
       (cases_order k p.number)
-
-  pub placed_long : length (placed buf p) ≡ 2048
-  placed_long = whole (256 * p.number) p.contents buf room ∙ long

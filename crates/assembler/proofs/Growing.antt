@@ -1,8 +1,8 @@
 -- What the fields hold once a piece is added.
-use Rattle.std.proofs.Common.{◌≡◌, ℕ, ◌+◌, ◌*◌, ◌^◌, ◌<◌, ◌≤◌, Bool, true, false, cond, ◌||◌, eqb, List, length, take, drop, Some, None, Option, sym, refl, ap, ◌∙◌, ⊎_elim, arith}
+use Rattle.std.proofs.Common.{◌≡◌, ℕ, ◌+◌, ◌*◌, ◌^◌, ◌<◌, Bool, true, false, cond, ◌||◌, eqb, List, length, take, drop, Some, None, Option, sym, refl, ap, ◌∙◌, ⊎_elim, arith}
 use mathlib.Core.Path.{fun_ext}
-use lib.Bits.{bit_or, or_lt, or_add_and, and_le_l, and_le_r}
-use Rattle.std.proofs.lemmas.Nat.{pow_below}
+use lib.Bits.{or_lt}
+use Rattle.std.proofs.lemmas.Nat.{pow_below, le_or_l, le_or_r}
 use Rattle.std.proofs.lemmas.List.{length-take, length-drop}
 use Rattle.std.proofs.lemmas.Bool.{cases_eq, cases_Bool, ltb-true, lt-ltb, eq-eqb, ne_eqb, both_ways, or_right}
 use Rattle.packet.specs.Pieces.{Piece}
@@ -14,12 +14,6 @@ use Rattle.assembler.proofs.Bits.{bit_or_at}
 use Rattle.assembler.proofs.Buffers.{placed_own, placed_other}
 use Rattle.assembler.proofs.Agreeing.{Agrees}
 use Rattle.assembler.proofs.Tests.{Formed, end, end_is, size_most, size_middle, last_held}
-
-above_left : (a b : ℕ) → a ≤ bit_or a b
-above_left a b = omega (arith, or_add_and a b, and_le_r a b)
-
-above_right : (a b : ℕ) → b ≤ bit_or a b
-above_right a b = omega (arith, or_add_and a b, and_le_l a b)
 
 held_path : {xs ys : List ℕ} {a b : Bool} → xs ≡ ys → a ≡ b → ◌≡◌ {A = Held} (record { bytes = xs; last = a }) (record { bytes = ys; last = b })
 held_path p q = λ i. record { bytes = p i; last = q i }
@@ -33,24 +27,21 @@ module _ (held : ℕ) (last : Option Last) (buf : List ℕ) (p : Piece) (sure : 
   not_last l = ⊎_elim (λ t. a.mark (last_held held last n sure t) ∙ l) (λ t. t) (cases_Bool (is_last last n))
 
   own_mark : is_last (last_with last p) n ≡ p.last
-  own_mark =
-      ⊎_elim (λ l. ap (λ b. is_last (cond b (Some (record { number = n; length = length p.contents })) last) n) l ∙ eq-eqb n n refl ∙ sym l)
-      (λ l. ap (λ b. is_last (cond b (Some (record { number = n; length = length p.contents })) last) n) l ∙ not_last l ∙ sym l) (cases_Bool p.last)
+  own_mark = ⊎_elim (λ l. rw l (eq-eqb n n refl)) (λ l. rw l (not_last l)) (cases_Bool p.last)
 
   own_size : size_of (last_with last p) n ≡ length p.contents
-  own_size =
-      ⊎_elim (λ l. ap (λ b. size_of (cond b (Some (record { number = n; length = length p.contents })) last) n) l ∙ ap (λ b. cond b (length p.contents) 256) (eq-eqb n n refl))
-      (λ l. ap (λ b. size_of (cond b (Some (record { number = n; length = length p.contents })) last) n) l ∙ size_middle last n (not_last l) ∙ sym (shape.middle l)) (cases_Bool p.last)
+  own_size = ⊎_elim (λ l. rw l (ap (λ b. cond b (length p.contents) 256) (eq-eqb n n refl))) (λ l. rw l (size_middle last n (not_last l) ∙ sym (shape.middle l))) (cases_Bool p.last)
+
+  -- no other is the last, where the piece is
+  no_other : (k : ℕ) → (k ≡ n → ⊥) → p.last ≡ true → is_last last k ≡ false
+  no_other k ne l = ⊎_elim (λ t. absurd (both_ways p.last (a.middle k t ne) l)) (λ t. t) (cases_Bool (is_last last k))
 
   other_mark : (k : ℕ) → (k ≡ n → ⊥) → is_last (last_with last p) k ≡ is_last last k
-  other_mark k ne =
-      ⊎_elim (λ l. ap (λ b. is_last (cond b (Some (record { number = n; length = length p.contents })) last) k) l ∙ ne_eqb n k (λ e. ne (sym e)) ∙ sym (⊎_elim (λ t. absurd (both_ways p.last (a.middle k t ne) l)) (λ t. t) (cases_Bool (is_last last k))))
-      (λ l. ap (λ b. is_last (cond b (Some (record { number = n; length = length p.contents })) last) k) l) (cases_Bool p.last)
+  other_mark k ne = ⊎_elim (λ l. rw l (ne_eqb n k (λ e. ne (sym e)) ∙ sym (no_other k ne l))) (λ l. rw l refl) (cases_Bool p.last)
 
   other_size : (k : ℕ) → (k ≡ n → ⊥) → size_of (last_with last p) k ≡ size_of last k
   other_size k ne =
-      ⊎_elim (λ l. ap (λ b. size_of (cond b (Some (record { number = n; length = length p.contents })) last) k) l ∙ ap (λ b. cond b (length p.contents) 256) (ne_eqb n k (λ e. ne (sym e))) ∙ sym (size_middle last k (⊎_elim (λ t. absurd (both_ways p.last (a.middle k t ne) l)) (λ t. t) (cases_Bool (is_last last k)))))
-      (λ l. ap (λ b. size_of (cond b (Some (record { number = n; length = length p.contents })) last) k) l) (cases_Bool p.last)
+      ⊎_elim (λ l. rw l (ap (λ b. cond b (length p.contents) 256) (ne_eqb n k (λ e. ne (sym e))) ∙ sym (size_middle last k (no_other k ne l)))) (λ l. rw l refl) (cases_Bool p.last)
 
   other_bytes : (k : ℕ) → (k ≡ n → ⊥) → take (size_of last k) (drop (256 * k) (placed buf p)) ≡ take (size_of last k) (drop (256 * k) buf)
   other_bytes k ne = placed_other buf p long shape.number shape.most k (size_of last k) (size_most held last k sure) ne
@@ -99,17 +90,16 @@ module _ (held : ℕ) (last : Option Last) (buf : List ℕ) (p : Piece) (sure : 
       ending : p.last ≡ true → ended (with_mark held n) (last_with last p) ≡ true
       ending l =
           let e : Last = record { number = n; length = length p.contents } in
-          ap (λ b. ended (with_mark held n) (cond b (Some e) last)) l
-          ∙ end_is (with_mark held n) e (record { number = shape.number; least = shape.least; most = shape.most; low = above_right held (2 ^ n); high = or_lt (n + 1) held (2 ^ n) (a.top l) (pow_below n (n + 1) (omega arith)) })
+          rw l
+          (end_is (with_mark held n) e (record { number = shape.number; least = shape.least; most = shape.most; low = le_or_r held (2 ^ n); high = or_lt (n + 1) held (2 ^ n) (a.top l) (pow_below n (n + 1) (omega arith)) }))
 
       going : (o : Option Last) → last ≡ o → ended held o ≡ true → p.last ≡ false → ended (with_mark held n) (last_with last p) ≡ true
       going None q s l =
-          ap (λ b. ended (with_mark held n) (cond b (Some (record { number = n; length = length p.contents })) last)) l ∙ ap (ended (with_mark held n)) q
-          ∙ lt-ltb (with_mark held n) 128 (or_lt 7 held (2 ^ n) (ltb-true held 128 s) (pow_below n 7 (shape.below l)))
+          rw (l, q) (lt-ltb (with_mark held n) 128 (or_lt 7 held (2 ^ n) (ltb-true held 128 s) (pow_below n 7 (shape.below l))))
       going (Some e) q s l =
           let f = end held e s in
           let own : is_last last e.number ≡ true = ap (λ o. is_last o e.number) q ∙ eq-eqb e.number e.number refl in
           let ne : e.number ≡ n → ⊥ = λ i. both_ways (is_last last n) (not_last l) (ap (is_last last) (sym i) ∙ own) in
           let up : n < e.number = a.below e.number own ne in
-          ap (λ b. ended (with_mark held n) (cond b (Some (record { number = n; length = length p.contents })) last)) l ∙ ap (ended (with_mark held n)) q
-          ∙ end_is (with_mark held n) e (record { number = f.number; least = f.least; most = f.most; low = omega (arith, above_left held (2 ^ n), f.low); high = or_lt (e.number + 1) held (2 ^ n) f.high (pow_below n (e.number + 1) (omega arith)) })
+          rw (l, q)
+          (end_is (with_mark held n) e (record { number = f.number; least = f.least; most = f.most; low = omega (arith, le_or_l held (2 ^ n), f.low); high = or_lt (e.number + 1) held (2 ^ n) f.high (pow_below n (e.number + 1) (omega arith)) }))

@@ -5,7 +5,7 @@ use Rattle.std.proofs.lemmas.Bool.{cases_Bool, eq-eqb, ne_eqb, true≢false}
 use Rattle.assembler.specs.declared.half.Last.{Last}
 use Rattle.assembler.specs.Contents.{Held, onward, from, joined}
 use Rattle.assembler.specs.Marks.{full_length}
-use Rattle.assembler.specs.Reading.{bit_at, in_buffer, marked, ended}
+use Rattle.assembler.specs.Reading.{bit_at, marked, ended}
 use Rattle.assembler.proofs.Bits.{got, full_bits}
 use Rattle.assembler.proofs.Tests.{end, held_small}
 
@@ -18,7 +18,7 @@ endless : (held : ℕ) (buf : List ℕ) (n k : ℕ) → from n k (marked held No
 endless held buf zero k = refl
 endless held buf (suc n) k =
     ap (onward (marked held None buf k)) (endless held buf n (k + 1))
-    ∙ ⊎_elim (λ t. ap (λ b. onward (cond b (Some (in_buffer None buf k)) None) None) t) (λ t. ap (λ b. onward (cond b (Some (in_buffer None buf k)) None) None) t) (cases_Bool (bit_at held k))
+    ∙ ⊎_elim (λ t. rw t refl) (λ t. rw t refl) (cases_Bool (bit_at held k))
 
 module _ (held : ℕ) (e : Last) (buf : List ℕ) where
   abbrev at : ℕ → Option Held

@@ -5,13 +5,13 @@ use native.Mathlib.Nat.{zero-div}
 use Rattle.std.proofs.lemmas.Bool.{cases_eq, cases_Bool, eq-eqb, ne_eqb, cond-true, cond-false}
 use Rattle.packet.specs.Pieces.{Piece}
 use Rattle.assembler.specs.declared.half.Last.{Last}
-use Rattle.assembler.specs.declared.half.Half.{Half}
-use Rattle.assembler.specs.declared.half.Half.TheVariants.{Collecting}
+use Rattle.assembler.specs.declared.half.Collecting.{Collecting}
 use Rattle.assembler.specs.Contents.{Held, Contents, nothing, none, collects, held_of, before, onward, from, adding, joined, collecting}
 use Rattle.packet.specs.Fragments.{sound}
 use Rattle.assembler.specs.Offers.{contradicts, settled, added, judged, offered, partly, wholly}
 use Rattle.assembler.specs.Marks.{with_mark, last_with, full_length, placed}
-use Rattle.assembler.specs.Reading.{in_buffer, marked, ended, legal, holding}
+use Rattle.assembler.specs.Holding.{holding}
+use Rattle.assembler.specs.Reading.{in_buffer, marked, ended}
 use Rattle.assembler.proofs.Agreeing.{Agrees, agrees_from}
 use Rattle.assembler.proofs.Growing.{grows, keeps, sounds}
 use Rattle.assembler.proofs.Joins.{front, joined_is}
@@ -58,27 +58,29 @@ module _ (held : ℕ) (last : Option Last) (buf : List ℕ) (p : Piece) (sure : 
       ∙ ap (settled p.sending (marked held' last' (placed buf p))) (joined_is held' last' (placed buf p) sound_with)
 
 -- a piece added to the sending that is collected
-module _ (state : Half) (held : ℕ) (last : Option Last) (buf : List ℕ) (p : Piece) (is : state ≡ Collecting p.sending held last) (kept : legal state ≡ true) (fine : sound p ≡ true) (long : length buf ≡ 2048) (free : contradicts (marked held last buf) p ≡ false) where
-  sure : ended held last ≡ true
-  sure = ap legal (sym is) ∙ kept
+module _ (state : Option Collecting) (c : Collecting) (buf : List ℕ) (p : Piece) (is : state ≡ Some c) (own : c.sending ≡ p.sending) (fine : sound p ≡ true) (long : length buf ≡ 2048) (free : contradicts (marked c.marks.held c.marks.last buf) p ≡ false) where
+  abbrev held : ℕ
+  held = c.marks.held
 
-  pub add_sound : (h : ℕ) (l : Option Last) → h ≡ with_mark held p.number → l ≡ last_with last p → ended h l ≡ true
-  add_sound h l eh el = rw (eh, el) (sound_with held last buf p sure fine long free)
+  abbrev last : Option Last
+  last = c.marks.last
 
   begun : (h : ℕ) (l : Option Last) (b : List ℕ) → h ≡ with_mark held p.number → l ≡ last_with last p → b ≡ placed buf p → offered (holding state buf) p ≡ settled p.sending (marked h l b) (front (full_length h l) b)
-  begun h l b eh el eb = rw (eh, el, eb) (ap (λ st. offered (holding st buf) p) is ∙ ap (λ m. judged m p) (held_own p.sending (marked held last buf)) ∙ judged_is held last buf p sure fine long free)
+  begun h l b eh el eb =
+      rw (eh, el, eb)
+      (ap (λ st. offered (holding st buf) p) is ∙ ap (λ m. judged m p) (cond-true (eqb c.sending p.sending) (marked held last buf) none (eq-eqb c.sending p.sending own)) ∙ judged_is held last buf p c.marks.in_order fine long free)
 
-  pub add_part : (h : ℕ) (l : Option Last) (b : List ℕ) → h ≡ with_mark held p.number → l ≡ last_with last p → b ≡ placed buf p → full_length h l ≡ None → offered (holding state buf) p ≡ partly (holding (Collecting p.sending h l) b)
-  add_part h l b eh el eb f = begun h l b eh el eb ∙ ap (λ o. settled p.sending (marked h l b) (front o b)) f
+  pub add_part : (h : ℕ) (l : Option Last) (b : List ℕ) → h ≡ with_mark held p.number → l ≡ last_with last p → b ≡ placed buf p → full_length h l ≡ None → offered (holding state buf) p ≡ partly (collecting c.sending (marked h l b))
+  add_part h l b eh el eb f = begun h l b eh el eb ∙ ap (λ o. settled p.sending (marked h l b) (front o b)) f ∙ ap (λ s. partly (collecting s (marked h l b))) (sym own)
 
   pub add_whole : (h : ℕ) (l : Option Last) (b : List ℕ) (n : ℕ) → h ≡ with_mark held p.number → l ≡ last_with last p → b ≡ placed buf p → full_length h l ≡ Some n → offered (holding state buf) p ≡ wholly (take n b)
   add_whole h l b n eh el eb f = begun h l b eh el eb ∙ ap (λ o. settled p.sending (marked h l b) (front o b)) f
 
   pub add_kept : (b : List ℕ) → b ≡ placed buf p → holding state b ≡ holding state buf
-  add_kept b eb = rw (is, eb) (ap (λ m. collecting p.sending m) (kept_with held last buf p sure fine long free))
+  add_kept b eb = rw (is, eb) (ap (λ m. collecting c.sending m) (kept_with held last buf p c.marks.in_order fine long free))
 
-pub collects_own : (state : Half) (s held : ℕ) (last : Option Last) (buf : List ℕ) → state ≡ Collecting s held last → collects (holding state buf) s ≡ true
-collects_own state s held last buf is = ap (λ st. collects (holding st buf) s) is ∙ eq-eqb s s refl
+  pub collects_own : collects (holding state buf) p.sending ≡ true
+  collects_own = ap (λ st. collects (holding st buf) p.sending) is ∙ eq-eqb c.sending p.sending own
 
 pub held_other : (c : Contents) (s : ℕ) → collects c s ≡ false → held_of c s ≡ none
 held_other nothing s e = refl
@@ -125,14 +127,11 @@ module _ (c : Contents) (p : Piece) (other : collects c p.sending ≡ false) (fi
   begin_alone n l = anew ∙ ap (settled p.sending (adding none p)) (joined_alone p n l)
 
   module _ (buf : List ℕ) (long : length buf ≡ 2048) where
-    begin_free : contradicts (marked 0 None buf) p ≡ false
-    begin_free = ap (λ m. contradicts m p) (none_marked buf) ∙ none_free p
+    pub begin_free : (h : ℕ) (l : Option Last) → h ≡ 0 → l ≡ None → contradicts (marked h l buf) p ≡ false
+    begin_free h l eh el = rw (eh, el) (ap (λ m. contradicts m p) (none_marked buf) ∙ none_free p)
 
-    pub begin_sound : (h : ℕ) (l : Option Last) → h ≡ with_mark 0 p.number → l ≡ last_with None p → ended h l ≡ true
-    begin_sound h l eh el = rw (eh, el) (sound_with 0 None buf p refl fine long begin_free)
-
-    pub begin_part : (h : ℕ) (l : Option Last) (b : List ℕ) → h ≡ with_mark 0 p.number → l ≡ last_with None p → b ≡ placed buf p → ((p.number ≡ 0) × (p.last ≡ true) → ⊥) → offered c p ≡ partly (holding (Collecting p.sending h l) b)
+    pub begin_part : (h : ℕ) (l : Option Last) (b : List ℕ) → h ≡ with_mark 0 p.number → l ≡ last_with None p → b ≡ placed buf p → ((p.number ≡ 0) × (p.last ≡ true) → ⊥) → offered c p ≡ partly (collecting p.sending (marked h l b))
     begin_part h l b eh el eb more =
         rw (eh, el, eb)
         (anew ∙ ap (settled p.sending (adding none p)) (joined_part p more)
-        ∙ ap (λ m. partly (collecting p.sending m)) (ap (λ m. adding m p) (sym (none_marked buf)) ∙ grown_with 0 None buf p refl fine long begin_free))
+        ∙ ap (λ m. partly (collecting p.sending m)) (ap (λ m. adding m p) (sym (none_marked buf)) ∙ grown_with 0 None buf p refl fine long (begin_free 0 None refl refl)))

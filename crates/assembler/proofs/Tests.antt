@@ -1,12 +1,14 @@
 -- What the tests of a piece and of the marks tell.
 use Rattle.std.proofs.Common.{◌≡◌, ℕ, zero, suc, ◌+◌, ◌^◌, ◌<◌, ◌≤◌, Bool, true, false, cond, ◌&&◌, eqb, ltb, leb, length, Some, None, Option, sym, refl, ap, ◌∙◌, ⊎_elim, arith}
-use Rattle.std.proofs.lemmas.Bool.{and_parts, and_from, or_parts, or_from, or_cases, or_left, or_right, cases_order, cases_Bool, ltb-true, leb-true, eqb-true, lt-ltb, le-leb, eq-eqb, true≢false, both_ways}
+use Rattle.std.proofs.lemmas.Bool.{or_parts, or_from, or_cases, or_left, or_right, cases_order, cases_Bool, ltb-true, eqb-true, true≢false}
+use Rattle.std.proofs.Math.Pow.{pow_mono}
+use Rattle.std.proofs.lemmas.Bool.Decides.{nat_tests}
 use Rattle.packet.specs.Pieces.{Piece}
 use Rattle.assembler.specs.declared.half.Last.{Last}
 use Rattle.assembler.specs.Offers.{some}
 use Rattle.packet.specs.Fragments.{sound}
 use Rattle.assembler.specs.Reading.{bit_at, is_last, size_of, ended}
-use Rattle.assembler.proofs.Bits.{pow_le, top_bit}
+use Rattle.assembler.proofs.Bits.{top_bit}
 
 pub some_none : (n : ℕ) (f : ℕ → Bool) → some n f ≡ false → (k : ℕ) → k < n → f k ≡ false
 some_none zero f h k lt = absurd (omega arith)
@@ -36,33 +38,14 @@ pub record Formed (p : Piece) : Type 0 where
   pub middle : p.last ≡ false → length p.contents ≡ 256
   pub below : p.last ≡ false → p.number < 7
 
+tests : (last : Bool) (n m : ℕ) → cond last (leb n 7 && (leb 1 m && leb m 256)) (ltb n 7 && eqb m 256) ≡ true → (n < 8) × (1 ≤ m) × (m ≤ 256) × (last ≡ false → (m ≡ 256) × (n < 7))
+tests true n m h = (grind (arith, nat_tests), grind (arith, nat_tests), grind (arith, nat_tests), λ f. absurd (true≢false f))
+tests false n m h = (grind (arith, nat_tests), grind (arith, nat_tests), grind (arith, nat_tests), λ _. (grind (arith, nat_tests), grind (arith, nat_tests)))
+
 pub formed : (p : Piece) → sound p ≡ true → Formed p
-formed p h = ⊎_elim ending going (cases_Bool p.last)
-  where
-    n : ℕ
-    n = p.number
-
-    m : ℕ
-    m = length p.contents
-
-    ending : p.last ≡ true → Formed p
-    ending l =
-        let a = and_parts (leb n 7) (leb 1 m && leb m 256) (ap (λ b. cond b (leb n 7 && (leb 1 m && leb m 256)) (ltb n 7 && eqb m 256)) (sym l) ∙ h) in
-        let b = and_parts (leb 1 m) (leb m 256) a.1 in
-        record {
-          number = omega (arith, leb-true n 7 a.0);
-          least = leb-true 1 m b.0;
-          most = leb-true m 256 b.1;
-          middle = λ f. absurd (both_ways p.last f l);
-          below = λ f. absurd (both_ways p.last f l);
-        }
-
-    going : p.last ≡ false → Formed p
-    going l =
-        let a = and_parts (ltb n 7) (eqb m 256) (ap (λ b. cond b (leb n 7 && (leb 1 m && leb m 256)) (ltb n 7 && eqb m 256)) (sym l) ∙ h) in
-        let few : n < 7 = ltb-true n 7 a.0 in
-        let size : m ≡ 256 = eqb-true m 256 a.1 in
-        record { number = omega arith; least = omega arith; most = omega arith; middle = λ _. size; below = λ _. few }
+formed p h =
+    let t = tests p.last p.number (length p.contents) h in
+    record { number = t.0; least = t.1; most = t.2; middle = λ l. (t.3 l).0; below = λ l. (t.3 l).1 }
 
 -- the last piece's facts
 pub record End (held : ℕ) (e : Last) : Type 0 where
@@ -73,31 +56,16 @@ pub record End (held : ℕ) (e : Last) : Type 0 where
   pub high : held < 2 ^ (e.number + 1)
 
 pub end : (held : ℕ) (e : Last) → ended held (Some e) ≡ true → End held e
-end held e h =
-    let a = and_parts (ltb e.number 8) _ h in
-    let b = and_parts (leb 1 e.length) _ a.1 in
-    let d = and_parts (leb e.length 256) _ b.1 in
-    let f = and_parts (leb (2 ^ e.number) held) _ d.1 in
-    record {
-      number = ltb-true e.number 8 a.0;
-      least = leb-true 1 e.length b.0;
-      most = leb-true e.length 256 d.0;
-      low = leb-true (2 ^ e.number) held f.0;
-      high = ltb-true held (2 ^ (e.number + 1)) f.1;
-    }
+end held e h = record { number = grind (arith, nat_tests); least = grind (arith, nat_tests); most = grind (arith, nat_tests); low = grind (arith, nat_tests); high = grind (arith, nat_tests) }
 
 pub end_is : (held : ℕ) (e : Last) → End held e → ended held (Some e) ≡ true
-end_is held e h =
-    and_from (ltb e.number 8) _ (lt-ltb e.number 8 h.number)
-    (and_from (leb 1 e.length) _ (le-leb 1 e.length h.least)
-    (and_from (leb e.length 256) _ (le-leb e.length 256 h.most)
-    (and_from (leb (2 ^ e.number) held) _ (le-leb (2 ^ e.number) held h.low) (lt-ltb held (2 ^ (e.number + 1)) h.high))))
+end_is held e h = grind (arith, nat_tests, h.number, h.least, h.most, h.low, h.high)
 
 pub held_small : (held : ℕ) (last : Option Last) → ended held last ≡ true → held < 256
 held_small held None h = omega (arith, ltb-true held 128 h)
 held_small held (Some e) h =
     let f = end held e h in
-    omega (arith, f.high, pow_le (e.number + 1) 8 (omega (arith, f.number)))
+    omega (arith, f.high, pow_mono {i = e.number + 1} {j = 8} (omega (arith, f.number)))
 
 pub size_most : (held : ℕ) (last : Option Last) (k : ℕ) → ended held last ≡ true → size_of last k ≤ 256
 size_most held None k h = omega arith
@@ -133,10 +101,9 @@ pub last_small : (held : ℕ) (last : Option Last) (k : ℕ) → ended held last
 last_small held None k h t = absurd (true≢false (sym t))
 last_small held (Some e) k h t = omega (arith, (end held e h).number, eqb-true e.number k t)
 
+rules_from : (last : Bool) (n m : ℕ) → n < 8 → 1 ≤ m → m ≤ 256 → (last ≡ false → (m ≡ 256) × (n < 7)) → cond last (leb n 7 && (leb 1 m && leb m 256)) (ltb n 7 && eqb m 256) ≡ true
+rules_from true n m a b d f = grind (arith, nat_tests)
+rules_from false n m a b d f = grind (arith, nat_tests, (f refl).0, (f refl).1)
+
 pub formed_is : (p : Piece) → Formed p → sound p ≡ true
-formed_is p f =
-    let n = p.number in
-    let m = length p.contents in
-    let rule : Bool → Bool = λ b. cond b (leb n 7 && (leb 1 m && leb m 256)) (ltb n 7 && eqb m 256) in
-    ⊎_elim (λ l. ap rule l ∙ and_from (leb n 7) (leb 1 m && leb m 256) (le-leb n 7 (omega (arith, f.number))) (and_from (leb 1 m) (leb m 256) (le-leb 1 m f.least) (le-leb m 256 f.most)))
-    (λ l. ap rule l ∙ and_from (ltb n 7) (eqb m 256) (lt-ltb n 7 (f.below l)) (eq-eqb m 256 (f.middle l))) (cases_Bool p.last)
+formed_is p f = rules_from p.last p.number (length p.contents) f.number f.least f.most (λ l. (f.middle l, f.below l))

@@ -1,5 +1,6 @@
 pub mod Assembling
 pub mod Contents
+pub mod Holding
 pub mod Marks
 pub mod Offers
 pub mod Reading

@@ -1,9 +1,7 @@
--- What an assembler's fields hold.
-use Rattle.std.specs.Prelude.{ℕ, ◌+◌, ◌*◌, ◌/◌, ◌%◌, ◌^◌, Bool, true, false, cond, ◌&&◌, List, take, drop, Some, None, Option, ◌==◌, nat_le, nat_lt}
+-- What the marks and the buffer of an assembler hold.
+use Rattle.std.specs.Prelude.{ℕ, ◌+◌, ◌*◌, ◌/◌, ◌%◌, ◌^◌, Bool, false, cond, ◌&&◌, List, take, drop, Some, None, Option, ◌==◌, nat_le, nat_lt}
 use Rattle.assembler.specs.declared.half.Last.{Last}
-use Rattle.assembler.specs.declared.half.Half.{Half}
-use Rattle.assembler.specs.declared.half.Half.TheVariants.{Empty, Collecting}
-use Rattle.assembler.specs.Contents.{Held, Contents, nothing, collecting}
+use Rattle.assembler.specs.Contents.{Held}
 
 -- whether a number's bit is set
 abbrev pub bit_at : ℕ → ℕ → Bool
@@ -27,18 +25,8 @@ in_buffer last buf k = record { bytes = take (size_of last k) (drop (256 * k) bu
 abbrev pub marked : ℕ → Option Last → List ℕ → ℕ → Option Held
 marked held last buf k = cond (bit_at held k) (Some (in_buffer last buf k)) None
 
--- what an assembler holds
-abbrev pub holding : Half → List ℕ → Contents
-holding Empty buf = nothing
-holding (Collecting s held last) buf = collecting s (marked held last buf)
-
 -- a last piece is the highest held, and has 1 to 256 bytes; number 7 is held only as the last
 abbrev pub ended : ℕ → Option Last → Bool
 ended held None = nat_lt held 128
 ended held (Some e) =
     nat_lt e.number 8 && (nat_le 1 e.length && (nat_le e.length 256 && (nat_le (2 ^ e.number) held && nat_lt held (2 ^ (e.number + 1)))))
-
--- what holds of every assembler's state
-abbrev pub legal : Half → Bool
-legal Empty = true
-legal (Collecting s held last) = ended held last

@@ -1,15 +1,15 @@
 -- What an assembler's answer to a fragment says of its fields.
-use Rattle.std.specs.Prelude.{◌≡◌, ℕ, ◌≤◌, true, false, List, take, Ok, Err, Result}
+use Rattle.std.specs.Prelude.{◌≡◌, ℕ, ◌≤◌, true, false, List, take, Ok, Err, Option, Result}
 use Rattle.packet.specs.Pieces.{Piece}
 use Rattle.packet.specs.declared.refusal.FragmentFault.{FragmentFault}
-use Rattle.assembler.specs.declared.half.Half.{Half}
+use Rattle.assembler.specs.declared.half.Collecting.{Collecting}
 use Rattle.assembler.specs.declared.offer.Offer.{Offer}
 use Rattle.assembler.specs.declared.offer.Offer.TheVariants.{Part, Whole, Alone}
 use Rattle.assembler.specs.Contents.{collects}
+use Rattle.assembler.specs.Holding.{holding}
 use Rattle.assembler.specs.Offers.{offered, refused, partly, wholly}
-use Rattle.assembler.specs.Reading.{holding}
 
-module _ (state : Half) (buf : List ℕ) (p : Piece) (state' : Half) (buf' : List ℕ) where
+module _ (state : Option Collecting) (buf : List ℕ) (p : Piece) (state' : Option Collecting) (buf' : List ℕ) where
   -- an answer to p from an assembler with the first fields that leaves the others: a part is held; the whole lies at the buffer's front or is the piece itself, and what is held stays
   abbrev pub Answered : Offer → Type 0
   Answered Part = offered (holding state buf) p ≡ partly (holding state' buf')

@@ -1,25 +1,26 @@
 // An assembler of one instruction.
-ghost use Rattle.std.specs.Prelude.{◌≡◌, true, false, take, replicate};
+ghost use Rattle.std.specs.Prelude.{◌≡◌, true, false, Some, take, replicate};
 ghost use Rattle.packet.specs.Pieces.{piece_of};
 ghost use Rattle.assembler.specs.Assembling.{Assembles};
 ghost use Rattle.assembler.specs.Contents.{nothing, collects};
+ghost use Rattle.assembler.specs.Holding.{holding};
 ghost use Rattle.assembler.specs.Offers.{contradicts};
-ghost use Rattle.assembler.specs.Reading.{legal, holding, marked};
-ghost use Rattle.packet.specs.Fragments.{sound};
+ghost use Rattle.assembler.specs.Reading.{marked};
 ghost use Rattle.assembler.specs.Taking.{Answered, Taken};
 
-use crate::half::{Half, Last};
+use crate::half::Collecting;
+use crate::marks::Marks;
 use crate::offer::Offer;
-use crate::{marks, placing};
+use crate::placing;
+use crate::sound::Sound;
 use packet::fragment::Fragment;
 use packet::refusal::FragmentFault;
 
 // Fragments of one sending, each at its place in the buffer, until none is missing.
 #[derive(Drop)]
 pub struct Assembler {
-    state: Half,
+    state: Option<Collecting>,
     buf: [u8; 2048],
-    ghost kept: { legal state ≡ true },
 }
 
 impl Assembler {
@@ -28,7 +29,7 @@ impl Assembler {
         ensures { (holding result.state result.buf ≡ nothing) × (result.buf ≡ replicate 2048 0) }
     {
         Assembler {
-            state: Half::Empty,
+            state: None,
             buf: [0; 2048],
         }
     }
@@ -37,60 +38,52 @@ impl Assembler {
     pub fn offer(&mut self, fragment: Fragment<'_>) -> Result<Offer, FragmentFault>
         ensures { Taken self.old.state self.old.buf (piece_of fragment.entry) self.new.state self.new.buf result }
     {
-        match (self.state, fragment) {
-            (_, f) if !marks::sound(f) => Err(FragmentFault::Malformed),
-            (Half::Collecting { sending, .. }, f) if sending != f.sending => Ok(self.begin(f)),
-            (Half::Collecting { held, last, .. }, f)
-                if marks::contradicts(held, last, &self.buf, f) => {
+        match (self.state, Sound::of(fragment)) {
+            (_, None) => Err(FragmentFault::Malformed),
+            (Some(c), Some(f)) if c.sending != f.fragment.sending => Ok(self.begin(f)),
+            (Some(c), Some(f)) if c.marks.contradicts(&self.buf, f) => {
                 Err(FragmentFault::Contradiction)
             }
-            (Half::Collecting { held, last, .. }, f) => Ok(self.add(held, last, f)),
-            (Half::Empty, f) => Ok(self.begin(f)),
+            (Some(c), Some(f)) => Ok(self.add(c, f)),
+            (None, Some(f)) => Ok(self.begin(f)),
         }
     }
 
     // Adds a fragment of the sending that is collected, which contradicts none that is held.
-    fn add(&mut self, held: u8, last: Option<Last>, fragment: Fragment<'_>) -> Offer
-        requires state { self.old.state ≡ Half.Collecting fragment.sending held last }
-        requires formed { sound (piece_of fragment) ≡ true }
-        requires agrees { contradicts (marked held last self.old.buf) (piece_of fragment) ≡ false }
-        ensures { Answered self.old.state self.old.buf (piece_of fragment.entry) self.new.state self.new.buf result }
+    fn add(&mut self, c: Collecting, piece: Sound<'_>) -> Offer
+        requires state { self.old.state ≡ Some c }
+        requires own { c.sending ≡ piece.fragment.sending }
+        requires agrees { contradicts (marked c.marks.held c.marks.last self.old.buf) (piece_of piece.fragment) ≡ false }
+        ensures { Answered self.old.state self.old.buf (piece_of piece.entry.fragment) self.new.state self.new.buf result }
     {
-        let held = marks::with_mark(held, fragment.number);
-        let last = marks::last_with(last, fragment);
-        placing::place(&mut self.buf, fragment);
-        match marks::full_length(held, last) {
+        let marks = c.marks.with(&mut self.buf, piece);
+        match marks.full_length() {
             Some(length) => Offer::Whole { length },
             None => {
-                self.state = Half::Collecting {
-                    sending: fragment.sending,
-                    held,
-                    last,
-                };
+                self.state = Some(Collecting { marks, ..c });
                 Offer::Part
             }
         }
     }
 
     // Begins with a fragment of a sending of which nothing is held.
-    fn begin(&mut self, fragment: Fragment<'_>) -> Offer
-        requires formed { sound (piece_of fragment) ≡ true }
-        requires other { collects (holding self.old.state self.old.buf) fragment.sending ≡ false }
-        ensures { Answered self.old.state self.old.buf (piece_of fragment.entry) self.new.state self.new.buf result }
+    fn begin(&mut self, piece: Sound<'_>) -> Offer
+        requires { collects (holding self.old.state self.old.buf) piece.fragment.sending ≡ false }
+        ensures { Answered self.old.state self.old.buf (piece_of piece.entry.fragment) self.new.state self.new.buf result }
     {
+        let fragment = piece.fragment;
         if fragment.number == 0 && fragment.last {
             return Offer::Alone;
         }
-        placing::place(&mut self.buf, fragment);
-        self.state = Half::Collecting {
+        self.state = Some(Collecting {
             sending: fragment.sending,
-            held: marks::with_mark(0, fragment.number),
-            last: marks::last_with(None, fragment),
-        };
+            marks: Marks::none().with(&mut self.buf, piece),
+        });
         Offer::Part
     }
 
     // The first `length` bytes of the buffer, or all of it.
+    // Stays: an answer that borrowed the buffer would hold the assembler as long as the instruction is used, and the caller empties it meanwhile.
     pub fn bytes(&self, length: usize) -> &[u8]
         ensures { result.now ≡ take length self.now.buf }
     {
@@ -101,7 +94,7 @@ impl Assembler {
     pub fn clear(&mut self)
         ensures { (holding self.new.state self.new.buf ≡ nothing) × (self.new.buf ≡ self.old.buf) }
     {
-        self.state = Half::Empty;
+        self.state = None;
     }
 }
 

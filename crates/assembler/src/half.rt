@@ -1,19 +1,16 @@
-// The state of a half-made instruction, without its bytes.
+// A half-made instruction, without its bytes.
+use crate::marks::Marks;
 
 // The last fragment: its number, and how many bytes it has.
 #[derive(Clone, Copy)]
-pub struct Last {
-    pub number: u8,
-    pub length: usize,
+pub(crate) struct Last {
+    pub(crate) number: u8,
+    pub(crate) length: usize,
 }
 
-// Nothing, or the sending whose fragments are collected: bit k of `held` is for fragment k.
+// The sending whose fragments are collected, and their marks.
 #[derive(Clone, Copy)]
-pub enum Half {
-    Empty,
-    Collecting {
-        sending: u64,
-        held: u8,
-        last: Option<Last>,
-    },
+pub(crate) struct Collecting {
+    pub(crate) sending: u64,
+    pub(crate) marks: Marks,
 }

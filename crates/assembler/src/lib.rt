@@ -2,7 +2,8 @@
 #![tactic(auto)]
 
 pub mod assembly;
-pub mod half;
+mod half;
 mod marks;
 pub mod offer;
 mod placing;
+mod sound;

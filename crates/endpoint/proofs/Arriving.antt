@@ -1,8 +1,7 @@
 -- The datagrams of one sending, taken in order: each but the last is a part, and with the last the instruction is read.
-use Rattle.std.proofs.Common.{◌≡◌, ℕ, zero, suc, ◌+◌, ◌<◌, ◌≤◌, max, Bool, true, false, cond, ◌&&◌, ◌||◌, eqb, ltb, List, length, None, Ok, sym, refl, ap, ◌∙◌, subst, ⊎_elim, arith}
+use Rattle.std.proofs.Common.{◌≡◌, ℕ, zero, suc, ◌+◌, ◌<◌, ◌≤◌, max, Bool, true, false, cond, ◌&&◌, ◌||◌, eqb, ltb, List, length, None, Ok, sym, refl, ap, ◌∙◌, subst, ⊎_elim, arith, Some}
 use Rattle.std.proofs.lemmas.Bool.{cond-true, cond-false, and_from, and_left, and_right, or_cases, or_left, or_right, cases_eq, cases_lt, eq-eqb, eqb-true, lt-ltb, le-ltb, ltb-true}
 use Rattle.state.specs.Kind.{Kind}
-use Rattle.window.specs.declared.answers.Lookup.TheVariants.{Held, Missing}
 use Rattle.window.specs.Numbers.{lookup}
 use Rattle.packet.specs.declared.datagram.Direction.{Direction}
 use Rattle.packet.specs.Pieces.{piece_count, piece}
@@ -15,7 +14,7 @@ use Rattle.assembler.specs.Offers.{partly, wholly, offered}
 use Rattle.assembler.specs.Assembling.{every, gathered, also}
 use Rattle.assembler.proofs.Assembling.{assembles}
 use Rattle.assembler.proofs.Offering.{held_own, held_other}
-use Rattle.endpoint.specs.declared.answer.Taken.TheVariants.{Part, Again, Baseless}
+use Rattle.protocol.specs.declared.answer.Taken.TheVariants.{Part, Again, Baseless}
 use Rattle.endpoint.specs.End.{Holding}
 use Rattle.endpoint.specs.Taking.{collected, passed, landed, taken}
 use Rattle.endpoint.specs.Chain.{after_take}
@@ -117,8 +116,8 @@ module _ (K L : Kind) (d : Direction) (first s : ℕ) (u : Update) (short : leng
         pub arrives_again : h.end.received.held u.new ≡ true → taken K L h' time bytes ≡ passed K L h (max m.now time) u (Again u.new)
         arrives_again y = ap (λ (x : Holding K L). taken K L x time bytes) m.is ∙ takes_again K L (at m.now m.half) time bytes _ _ u reads y
 
-        pub arrives_baseless : h.end.received.held u.new ≡ false → lookup h.end.received h.received_store u.old ≡ Missing → taken K L h' time bytes ≡ passed K L h (max m.now time) u (Baseless u.new)
+        pub arrives_baseless : h.end.received.held u.new ≡ false → lookup h.end.received h.received_store u.old ≡ None → taken K L h' time bytes ≡ passed K L h (max m.now time) u (Baseless u.new)
         arrives_baseless n l = ap (λ (x : Holding K L). taken K L x time bytes) m.is ∙ takes_baseless K L (at m.now m.half) time bytes _ _ u reads n l
 
-        pub arrives_land : (base c : L.Contents) → h.end.received.held u.new ≡ false → lookup h.end.received h.received_store u.old ≡ Held base → L.apply base u.diff ≡ Ok c → taken K L h' time bytes ≡ landed K L h (max m.now time) u c
+        pub arrives_land : (base c : L.Contents) → h.end.received.held u.new ≡ false → lookup h.end.received h.received_store u.old ≡ Some base → L.apply base u.diff ≡ Ok c → taken K L h' time bytes ≡ landed K L h (max m.now time) u c
         arrives_land base c n l a = ap (λ (x : Holding K L). taken K L x time bytes) m.is ∙ takes_land K L (at m.now m.half) time bytes _ _ u base c reads n l a

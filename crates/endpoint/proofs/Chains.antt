@@ -1,15 +1,13 @@
 -- Every call keeps the states that an end has sent in a chain.
-use Rattle.std.proofs.Common.{◌≡◌, ℕ, ◌+◌, ◌<◌, ◌≤◌, max, Bool, true, false, not, ◌&&◌, eqb, leb, List, [], ◌∷◌, length, set, IfOk, Ok, Err, Result, sym, refl, ap, ◌∙◌, subst, ⊎_elim, arith, length-set}
+use Rattle.std.proofs.Common.{◌≡◌, ℕ, ◌+◌, ◌<◌, ◌≤◌, max, Bool, true, false, not, ◌&&◌, eqb, leb, List, [], ◌∷◌, length, set, IfOk, Ok, Err, Result, sym, refl, ap, ◌∙◌, subst, ⊎_elim, arith, length-set, Some, None, Option}
 use Rattle.std.proofs.lemmas.Bool.{cases_lt, cases_eq, cond_both, and_parts, and_right, eqb-true, both_ways, not_from_true}
 use Rattle.std.proofs.lemmas.Result.{IfOk-at_ok}
 use Rattle.state.specs.Kind.{Kind, Itself, Onward}
-use Rattle.window.specs.declared.answers.Lookup.{Lookup}
-use Rattle.window.specs.declared.answers.Lookup.TheVariants.{Held, Missing}
 use Rattle.window.specs.Numbers.{empty, adding}
 use Rattle.packet.specs.declared.datagram.Direction.{Direction}
-use Rattle.endpoint.specs.declared.answer.Ticked.{Ticked}
-use Rattle.endpoint.specs.declared.fault.TickRefusal.{TickRefusal}
-use Rattle.endpoint.specs.declared.fault.TickRefusal.TheVariants.{LateTime, WrongStore, ShortBuffer, NotFollowing, NoSendingsLeft, LongDiff}
+use Rattle.protocol.specs.declared.answer.Ticked.{Ticked}
+use Rattle.protocol.specs.declared.fault.TickRefusal.{TickRefusal}
+use Rattle.protocol.specs.declared.fault.TickRefusal.TheVariants.{LateTime, WrongStore, ShortBuffer, NotFollowing, NoSendingsLeft, LongDiff}
 use Rattle.endpoint.specs.End.{End, Holding, latest, both_fit, state_at, fresh, opened, changed}
 use Rattle.endpoint.specs.Due.{due}
 use Rattle.endpoint.specs.Ticking.{AfterTick, facts, fixes, new_number, new_state, top_state, assumed, assumed_state, update, ticked}
@@ -23,8 +21,8 @@ use Rattle.endpoint.proofs.Takes.{TakeLeaves, take_leaves}
 
 module _ (K L : Kind) (itself : Itself K) (onto : Onward K) where
   -- what a look-up gives, and the start where there is nothing
-  abbrev or_start : Lookup K.Contents → K.Contents
-  or_start r = elim r [ Held x ↦ x | Missing ↦ K.start ]
+  abbrev or_start : Option K.Contents → K.Contents
+  or_start r = elim r [ Some x ↦ x | None ↦ K.start ]
 
   chained_fresh : (d : Direction) (time : ℕ) (ks : List K.Contents) (ls : List L.Contents) → length ks ≡ 16 → length ls ≡ 16 → Chained K L (record { end = fresh K L d time; sent_store = set ks 0 K.start; received_store = set ls 0 L.start })
   chained_fresh d time ks ls a b = record {

@@ -16,7 +16,7 @@ use Rattle.assembler.specs.Contents.{Contents, nothing, collecting, collects, he
 use Rattle.assembler.specs.Offers.{Outcome, partly, wholly, offered}
 use Rattle.assembler.specs.Assembling.{every, gathered, also}
 use Rattle.assembler.proofs.Assembling.{assembles}
-use Rattle.endpoint.specs.declared.fault.TakeFault.{TakeFault}
+use Rattle.protocol.specs.declared.fault.TakeFault.{TakeFault}
 use Rattle.endpoint.specs.End.{Holding}
 use Rattle.endpoint.specs.Taking as take
 use Rattle.endpoint.specs.Taking.{taken}

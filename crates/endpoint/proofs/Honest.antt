@@ -1,16 +1,14 @@
 -- Numbers that stand for fixed states: what a tick sends leads from one to another, and what a take holds is what they are.
-use Rattle.std.proofs.Common.{◌≡◌, ℕ, ◌≤◌, max, true, false, leb, List, length, Ok, Err, Result, sym, ap, ◌∙◌, subst, ⊎_elim, arith}
+use Rattle.std.proofs.Common.{◌≡◌, ℕ, ◌≤◌, max, true, false, leb, List, length, Ok, Err, Result, sym, ap, ◌∙◌, subst, ⊎_elim, arith, Some, Option}
 use Rattle.std.proofs.lemmas.Bool.{cases_eq, and_parts, cond-true, both_ways}
 use Rattle.state.specs.declared.fault.StateFault.{StateFault}
 use Rattle.state.specs.Kind.{Kind, Itself, Onward, Reaches}
-use Rattle.window.specs.declared.answers.Lookup.{Lookup}
-use Rattle.window.specs.declared.answers.Lookup.TheVariants.{Held}
 use Rattle.window.specs.Numbers.{Numbers, lookup}
 use Rattle.packet.specs.Instructions.{Update, together}
 use Rattle.packet.specs.Datagrams.{Parcel}
-use Rattle.endpoint.specs.declared.answer.Taken.{Taken}
-use Rattle.endpoint.specs.declared.fault.TakeFault.{TakeFault}
-use Rattle.endpoint.specs.declared.fault.TakeFault.TheVariants as fault
+use Rattle.protocol.specs.declared.answer.Taken.{Taken}
+use Rattle.protocol.specs.declared.fault.TakeFault.{TakeFault}
+use Rattle.protocol.specs.declared.fault.TakeFault.TheVariants as fault
 use Rattle.endpoint.specs.End.{Holding}
 use Rattle.endpoint.specs.Ticking.{new_number, new_state, assumed, assumed_state, update}
 use Rattle.endpoint.specs.Taking.{AfterTake, kept, landed, taken}
@@ -39,7 +37,7 @@ module _ (K L : Kind) (h : Holding K L) where
 
   -- the states held are those that the numbers stand for
   abbrev pub HeldTrue : (ℕ → L.Contents) → Type 0
-  HeldTrue fixed = (n : ℕ) → h.end.received.held n ≡ true → lookup h.end.received h.received_store n ≡ Held (fixed n)
+  HeldTrue fixed = (n : ℕ) → h.end.received.held n ≡ true → lookup h.end.received h.received_store n ≡ Some (fixed n)
 
 -- what a tick sends leads from one to another of the states that it has under its numbers then
 module _ (K L : Kind) (itself : Itself K) (onto : Onward K) (h : Holding K L) (o : Own K L h.end) (c : Chained K L h) where
@@ -55,17 +53,17 @@ module _ (K L : Kind) (itself : Itself K) (onto : Onward K) (h : Holding K L) (o
 
 module _ (K L : Kind) (reaches : Reaches L) (fixed : ℕ → L.Contents) (h : Holding K L) (o : Own K L h.end) (fit : length h.received_store ≡ 16) (t : HeldTrue K L h fixed) where
   -- a base that is found is the fixed one
-  base_is : (n : ℕ) (base : L.Contents) → lookup h.end.received h.received_store n ≡ Held base → base ≡ fixed n
+  base_is : (n : ℕ) (base : L.Contents) → lookup h.end.received h.received_store n ≡ Some base → base ≡ fixed n
   base_is n base l = let q = t n (found_held h.end.received h.received_store n base l) in cc
 
-  applied_is : (u : Update) (base : L.Contents) → Honest L fixed u → lookup h.end.received h.received_store u.old ≡ Held base → L.apply base u.diff ≡ Ok (fixed u.new)
+  applied_is : (u : Update) (base : L.Contents) → Honest L fixed u → lookup h.end.received h.received_store u.old ≡ Some base → L.apply base u.diff ≡ Ok (fixed u.new)
   applied_is u base k l = ap (λ b. L.apply b u.diff) (base_is u.old base l) ∙ honest_reaches L fixed u reaches k
 
   -- a state that lands is the one that its number stands for, and the others stay
-  pub land_true : (now : ℕ) (u : Update) (numbers : together u ≡ true) (base c : L.Contents) → Honest L fixed u → h.end.received.held u.new ≡ false → lookup h.end.received h.received_store u.old ≡ Held base → L.apply base u.diff ≡ Ok c → HeldTrue K L (after_take K L h (landed K L h now u c)) fixed
+  pub land_true : (now : ℕ) (u : Update) (numbers : together u ≡ true) (base c : L.Contents) → Honest L fixed u → h.end.received.held u.new ≡ false → lookup h.end.received h.received_store u.old ≡ Some base → L.apply base u.diff ≡ Ok c → HeldTrue K L (after_take K L h (landed K L h now u c)) fixed
   land_true now u numbers base c k new l a n held =
       ⊎_elim
-      (λ (e : n ≡ u.new). subst (λ m. lookup after.end.received after.received_store m ≡ Held (fixed m)) (sym e) (landed_new K L h now o fit u numbers old new c ∙ ap held_as_lem is))
+      (λ (e : n ≡ u.new). subst (λ m. lookup after.end.received after.received_store m ≡ Some (fixed m)) (sym e) (landed_new K L h now o fit u numbers old new c ∙ ap held_as_lem is))
       (λ (ne : n ≡ u.new → ⊥).
       let was = sym (ap (λ (w : Numbers). w.held n) (kept_is K L h now u)) ∙ sym (put_other (kept K L h now u) u.new n ne) ∙ held in
       let p = and_parts (leb (max h.end.received.anchor u.throwaway) n) (h.end.received.held n) was in
@@ -78,8 +76,8 @@ module _ (K L : Kind) (reaches : Reaches L) (fixed : ℕ → L.Contents) (h : Ho
       old : h.end.received.held u.old ≡ true
       old = found_held h.end.received h.received_store u.old base l
 
-      held_as_lem : L.Contents → Lookup L.Contents
-      held_as_lem x = Held x
+      held_as_lem : L.Contents → Option L.Contents
+      held_as_lem x = Some x
 
       is : c ≡ fixed u.new
       is = let q = applied_is u base k l in cc

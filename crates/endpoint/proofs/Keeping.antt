@@ -5,7 +5,6 @@ use Rattle.std.proofs.lemmas.Bool.{cases_lt, cases_eq, cases_Bool, cond-true, co
 use Rattle.std.proofs.lemmas.List.{get_or-set_same}
 use Rattle.std.proofs.lemmas.Result.{IfOk-at_ok}
 use Rattle.state.specs.Kind.{Kind}
-use Rattle.window.specs.declared.answers.Lookup.TheVariants.{Held, Missing}
 use Rattle.window.specs.Numbers.{lookup, Numbers, Within, inside, free, put, starting_at, raise}
 use Rattle.window.proofs.Laws.{put_yes, raise_yes, put_width, put_anchor, put_other, put_same, raise_width, within_put, within_raise, inside_from, lookup_missing}
 use Rattle.packet.specs.declared.datagram.Direction.{Direction}
@@ -57,10 +56,10 @@ fewer a to b n le =
     (λ h. let p = and_parts (leb to n) (leb n b) h in let q = leb-true to n p.0 in and_from (leb to n) (leb a n && leb n b) p.0 (and_from (leb a n) (leb n b) (le-leb a n (omega arith)) p.1))
 
 -- a number under which a state is found is held
-pub found_held : {T : Type 0} (w : Numbers) (xs : List T) (n : ℕ) (x : T) → lookup w xs n ≡ Held x → w.held n ≡ true
+pub found_held : {T : Type 0} (w : Numbers) (xs : List T) (n : ℕ) (x : T) → lookup w xs n ≡ Some x → w.held n ≡ true
 found_held w xs n x e = ⊎_elim (λ t. t) (λ f. absurd (apart (lookup_missing w xs n f) e)) (cases_Bool (w.held n))
   where
-    apart : lookup w xs n ≡ Missing → lookup w xs n ≡ Held x → ⊥
+    apart : lookup w xs n ≡ None → lookup w xs n ≡ Some x → ⊥
     apart p q = let z : ◌≡◌ {A = ℕ} 0 1 = cc in omega arith
 
 -- an instruction's numbers, in order

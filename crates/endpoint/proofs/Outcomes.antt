@@ -1,8 +1,7 @@
 -- What a tick and a take come to, where it is known which way they go.
-use Rattle.std.proofs.Common.{◌≡◌, ℕ, zero, suc, ◌+◌, ◌-◌, ◌<◌, ◌≤◌, max, true, false, cond, not, ◌&&◌, ◌||◌, leb, List, [], length, get_or, Ok, refl, ap, ◌∙◌, arith}
+use Rattle.std.proofs.Common.{◌≡◌, ℕ, zero, suc, ◌+◌, ◌-◌, ◌<◌, ◌≤◌, max, true, false, cond, not, ◌&&◌, ◌||◌, leb, List, [], length, get_or, Ok, refl, ap, ◌∙◌, arith, Some, None}
 use Rattle.std.proofs.lemmas.Bool.{cond-true, cond-false, and_left, and_right, or_right, le-leb, lt-leb, not_from_true, not_from_false}
 use Rattle.state.specs.Kind.{Kind}
-use Rattle.window.specs.declared.answers.Lookup.TheVariants.{Held, Missing}
 use Rattle.window.specs.Numbers.{lookup}
 use Rattle.packet.specs.declared.datagram.Direction.{Direction}
 use Rattle.packet.specs.Pieces.{piece_count}
@@ -13,7 +12,7 @@ use Rattle.packet.proofs.Layouts.{instruction_length}
 use Rattle.packet.proofs.Sendings.{sending_stands}
 use Rattle.assembler.specs.Contents.{Contents}
 use Rattle.assembler.specs.Offers.{partly, offered}
-use Rattle.endpoint.specs.declared.answer.Taken.TheVariants.{Part, Again, Baseless}
+use Rattle.protocol.specs.declared.answer.Taken.TheVariants.{Part, Again, Baseless}
 use Rattle.endpoint.specs.End.{End, Holding, latest, both_fit}
 use Rattle.endpoint.specs.Due.{Facts, due, patience, since, silence, gathering, owed}
 use Rattle.endpoint.specs.Ticking.{reached, facts, assumed, sent_at, assumed_state, new_state, update, judged, ticked}
@@ -96,11 +95,11 @@ module _ (K L : Kind) (h : Holding K L) (time : ℕ) where
     takes_again g bs u r y = take_followed g bs u r ∙ cond-true (h.end.received.held u.new) _ _ y
 
     -- whose new number isn't, nor its old one
-    pub takes_baseless : (g : Parcel) (bs : List ℕ) (u : Update) → Reads K L h time bytes g bs u → h.end.received.held u.new ≡ false → lookup h.end.received h.received_store u.old ≡ Missing → taken K L h time bytes ≡ passed K L h (max h.end.clock time) u (Baseless u.new)
+    pub takes_baseless : (g : Parcel) (bs : List ℕ) (u : Update) → Reads K L h time bytes g bs u → h.end.received.held u.new ≡ false → lookup h.end.received h.received_store u.old ≡ None → taken K L h time bytes ≡ passed K L h (max h.end.clock time) u (Baseless u.new)
     takes_baseless g bs u r n m = take_followed g bs u r ∙ cond-false (h.end.received.held u.new) _ _ n ∙ ap (based K L h (max h.end.clock time) u) m
 
     -- whose old number is held and whose diff applies
-    pub takes_land : (g : Parcel) (bs : List ℕ) (u : Update) (base c : L.Contents) → Reads K L h time bytes g bs u → h.end.received.held u.new ≡ false → lookup h.end.received h.received_store u.old ≡ Held base → L.apply base u.diff ≡ Ok c → taken K L h time bytes ≡ landed K L h (max h.end.clock time) u c
+    pub takes_land : (g : Parcel) (bs : List ℕ) (u : Update) (base c : L.Contents) → Reads K L h time bytes g bs u → h.end.received.held u.new ≡ false → lookup h.end.received h.received_store u.old ≡ Some base → L.apply base u.diff ≡ Ok c → taken K L h time bytes ≡ landed K L h (max h.end.clock time) u c
     takes_land g bs u base c r n l a = take_followed g bs u r ∙ cond-false (h.end.received.held u.new) _ _ n ∙ ap (based K L h (max h.end.clock time) u) l ∙ ap (applied K L h (max h.end.clock time) u) a
 
 -- once the silence is over a tick is due

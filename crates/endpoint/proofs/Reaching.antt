@@ -1,16 +1,15 @@
 -- What an exchange comes to at each end: a late tick sends from the acknowledged state, and an instruction whose base is held, taken whole, is held and acknowledged.
-use Rattle.std.proofs.Common.{◌≡◌, ℕ, ◌+◌, ◌<◌, ◌≤◌, max, true, false, List, length, Ok, sym, refl, ap, subst, ⊎_elim, arith}
+use Rattle.std.proofs.Common.{◌≡◌, ℕ, ◌+◌, ◌<◌, ◌≤◌, max, true, false, List, length, Ok, sym, refl, ap, subst, ⊎_elim, arith, Some}
 use Rattle.std.proofs.lemmas.Bool.{cases_Bool}
 use Rattle.state.specs.Kind.{Kind, Itself, Onward, Reaches}
-use Rattle.window.specs.declared.answers.Lookup.TheVariants.{Held}
 use Rattle.window.specs.Numbers.{lookup}
 use Rattle.packet.specs.declared.datagram.Direction.{Direction}
 use Rattle.packet.specs.Pieces.{piece_count}
 use Rattle.packet.specs.Instructions.{Update, together, instruction_bytes}
 use Rattle.packet.specs.Datagrams.{read_datagram}
 use Rattle.packet.specs.Sendings.{parcel}
-use Rattle.endpoint.specs.declared.answer.Taken.{Taken}
-use Rattle.endpoint.specs.declared.answer.Taken.TheVariants.{Again}
+use Rattle.protocol.specs.declared.answer.Taken.{Taken}
+use Rattle.protocol.specs.declared.answer.Taken.TheVariants.{Again}
 use Rattle.endpoint.specs.End.{Holding}
 use Rattle.endpoint.specs.Taking.{AfterTake, passed, landed, taken}
 use Rattle.endpoint.specs.Own.{Own}
@@ -46,8 +45,8 @@ module _ (K L : Kind) (reaches : Reaches L) (fixed : ℕ → L.Contents) (d : Di
     arrives_newest_is = arrives_honest (λ r. r.end.newest ≡ max h.end.newest u.new) (λ y. let le = o.newest_largest u.new y in omega arith) (λ _. refl)
 
     -- its new state is held
-    pub arrives_new : lookup (taken K L h' time bytes).end.received (taken K L h' time bytes).received_store u.new ≡ Held (fixed u.new)
-    arrives_new = arrives_honest (λ r. lookup r.end.received r.received_store u.new ≡ Held (fixed u.new)) (λ y. t u.new y) (λ n. landed_new K L h (max m.now time) o fit u numbers base n (fixed u.new))
+    pub arrives_new : lookup (taken K L h' time bytes).end.received (taken K L h' time bytes).received_store u.new ≡ Some (fixed u.new)
+    arrives_new = arrives_honest (λ r. lookup r.end.received r.received_store u.new ≡ Some (fixed u.new)) (λ y. t u.new y) (λ n. landed_new K L h (max m.now time) o fit u numbers base n (fixed u.new))
 
     -- its ack is acknowledged
     pub arrives_acknowledged : (taken K L h' time bytes).end.sent.anchor ≡ max h.end.sent.anchor u.ack

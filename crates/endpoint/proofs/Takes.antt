@@ -1,14 +1,13 @@
 -- What a take leaves alone, and what it keeps under its numbers.
-use Rattle.std.proofs.Common.{◌≡◌, ℕ, ◌≤◌, max, true, false, cond, leb, List, length, Ok, Err, Option, sym, refl, ap, ◌∙◌, subst, arith}
+use Rattle.std.proofs.Common.{◌≡◌, ℕ, ◌≤◌, max, true, false, cond, leb, List, length, Ok, Err, Option, sym, refl, ap, ◌∙◌, subst, arith, Some, None}
 use Rattle.std.proofs.lemmas.Bool.{cond-true, le-leb, eq-eqb, both_ways}
 use Rattle.state.specs.Kind.{Kind}
-use Rattle.window.specs.declared.answers.Lookup.TheVariants.{Held, Missing}
 use Rattle.window.specs.Numbers.{Numbers, put, stored, lookup}
 use Rattle.window.proofs.Laws.{put_anchor, raise_width, within_raise, length_stored, lookup_put_same, lookup_put_other, lookup_raise}
 use Rattle.packet.specs.Instructions.{Update, together}
 use Rattle.packet.specs.Datagrams.{Parcel}
-use Rattle.endpoint.specs.declared.answer.Taken.{Taken}
-use Rattle.endpoint.specs.declared.fault.TakeFault.{TakeFault}
+use Rattle.protocol.specs.declared.answer.Taken.{Taken}
+use Rattle.protocol.specs.declared.fault.TakeFault.{TakeFault}
 use Rattle.endpoint.specs.End.{Holding}
 use Rattle.endpoint.specs.Taking as take
 use Rattle.endpoint.specs.Taking.{AfterTake, kept, landed, settled, taken}
@@ -55,17 +54,17 @@ module _ (K L : Kind) (h : Holding K L) (now : ℕ) where
   settled_anchor ack w newest pending = ap (λ (v : Numbers). v.anchor) (raised K L h now ack)
 
   -- the states sent are there from it on, and nothing below
-  pub settled_states : (ack : ℕ) (w : Numbers) (newest : ℕ) (pending : Option ℕ) (ks : List K.Contents) (n : ℕ) → lookup (settled K L h now ack w newest pending).sent ks n ≡ cond (leb (max h.end.sent.anchor ack) n) (lookup h.end.sent ks n) Missing
+  pub settled_states : (ack : ℕ) (w : Numbers) (newest : ℕ) (pending : Option ℕ) (ks : List K.Contents) (n : ℕ) → lookup (settled K L h now ack w newest pending).sent ks n ≡ cond (leb (max h.end.sent.anchor ack) n) (lookup h.end.sent ks n) None
   settled_states ack w newest pending ks n = lookup_raise h.end.sent ks (max h.end.sent.anchor ack) n (le-leb h.end.sent.anchor (max h.end.sent.anchor ack) (omega arith))
 
   -- an instruction whose new number isn't held and whose old number is
   module _ (o : Own K L h.end) (fit : length h.received_store ≡ 16) (u : Update) (numbers : together u ≡ true) (old : h.end.received.held u.old ≡ true) (new : h.end.received.held u.new ≡ false) (c : L.Contents) where
     -- its new number has the applied contents
-    pub landed_new : lookup (landed K L h now u c).end.received (landed K L h now u c).received_store u.new ≡ Held c
+    pub landed_new : lookup (landed K L h now u c).end.received (landed K L h now u c).received_store u.new ≡ Some c
     landed_new = lookup_put_same (kept K L h now u) h.received_store u.new c (eq-eqb (length h.received_store) (kept K L h now u).width (fit ∙ sym (raise_width h.end.received (max h.end.received.anchor u.throwaway) ∙ o.received_width))) (new_free K L h now o u numbers old new)
 
     -- every other has what it had, from the larger of the anchor and throwaway on
-    pub landed_other : (m : ℕ) → (m ≡ u.new → ⊥) → lookup (landed K L h now u c).end.received (landed K L h now u c).received_store m ≡ cond (leb (max h.end.received.anchor u.throwaway) m) (lookup h.end.received h.received_store m) Missing
+    pub landed_other : (m : ℕ) → (m ≡ u.new → ⊥) → lookup (landed K L h now u c).end.received (landed K L h now u c).received_store m ≡ cond (leb (max h.end.received.anchor u.throwaway) m) (lookup h.end.received h.received_store m) None
     landed_other m ne =
         lookup_put_other (kept K L h now u) h.received_store u.new c m (within_raise h.end.received (max h.end.received.anchor u.throwaway) o.received_within) ne
         ∙ lookup_raise h.end.received h.received_store (max h.end.received.anchor u.throwaway) m (le-leb h.end.received.anchor (max h.end.received.anchor u.throwaway) (omega arith))
@@ -92,7 +91,7 @@ module _ (K L : Kind) (h : Holding K L) (now : ℕ) where
         newest = up;
         anchor = higher;
         store_length = long;
-        states = λ ks n le. settled_states ack w newest pending ks n ∙ cond-true (leb (max h.end.sent.anchor ack) n) (lookup h.end.sent ks n) Missing (le-leb (max h.end.sent.anchor ack) n (omega arith));
+        states = λ ks n le. settled_states ack w newest pending ks n ∙ cond-true (leb (max h.end.sent.anchor ack) n) (lookup h.end.sent ks n) None (le-leb (max h.end.sent.anchor ack) n (omega arith));
       }
 
 module _ (K L : Kind) (h : Holding K L) where

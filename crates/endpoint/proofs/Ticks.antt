@@ -1,9 +1,7 @@
 -- What a tick leaves alone, what it sends, and what it keeps under its numbers.
-use Rattle.std.proofs.Common.{◌≡◌, ℕ, ◌+◌, ◌≤◌, max, Bool, true, false, cond, ◌&&◌, leb, List, length, Ok, Err, Result, sym, refl, ap, ◌∙◌, ⊎_elim, arith}
+use Rattle.std.proofs.Common.{◌≡◌, ℕ, ◌+◌, ◌≤◌, max, Bool, true, false, cond, ◌&&◌, leb, List, length, Ok, Err, Result, sym, refl, ap, ◌∙◌, ⊎_elim, arith, Some, None, Option}
 use Rattle.std.proofs.lemmas.Bool.{cases_Bool, cond-true, cond-false, cond_both, and_parts, and_from, leb-true, le-leb, eq-eqb}
 use Rattle.state.specs.Kind.{Kind}
-use Rattle.window.specs.declared.answers.Lookup.{Lookup}
-use Rattle.window.specs.declared.answers.Lookup.TheVariants.{Held, Missing}
 use Rattle.window.specs.Numbers.{Within, free, put, stored, lookup}
 use Rattle.window.specs.Calls.{fits}
 use Rattle.window.proofs.Laws.{put_anchor, lookup_some, length_stored, lookup_put_same, lookup_put_other}
@@ -11,9 +9,9 @@ use Rattle.packet.specs.declared.sending.Sent.{Sent as Count}
 use Rattle.packet.specs.Pieces.{piece_count}
 use Rattle.packet.specs.Instructions.{together, instruction_bytes, read_instruction}
 use Rattle.packet.proofs.Layouts.{instruction_length, instruction_back}
-use Rattle.endpoint.specs.declared.answer.Ticked.{Ticked}
-use Rattle.endpoint.specs.declared.answer.Ticked.TheVariants.{Idle, Sent}
-use Rattle.endpoint.specs.declared.fault.TickRefusal.{TickRefusal}
+use Rattle.protocol.specs.declared.answer.Ticked.{Ticked}
+use Rattle.protocol.specs.declared.answer.Ticked.TheVariants.{Idle, Sent}
+use Rattle.protocol.specs.declared.fault.TickRefusal.{TickRefusal}
 use Rattle.endpoint.specs.End.{End, Holding, state_at}
 use Rattle.endpoint.specs.Due.{due}
 use Rattle.endpoint.specs.Ticking as tick
@@ -129,22 +127,22 @@ module _ (K L : Kind) (e : End K L) (ks : List K.Contents) (now : ℕ) (o : Own 
     sent_fits = eq-eqb (length ks) e.sent.width (fit ∙ sym o.sent_width)
 
     -- the store has a state under every number of the sent window
-    pub sent_state_lem : (n : ℕ) → e.sent.anchor ≤ n → n ≤ e.top → lookup e.sent ks n ≡ Held (state_at K e.sent ks n)
+    pub sent_state_lem : (n : ℕ) → e.sent.anchor ≤ n → n ≤ e.top → lookup e.sent ks n ≡ Some (state_at K e.sent ks n)
     sent_state_lem n a b =
         let s = lookup_some e.sent ks n sent_within sent_fits (sent_has n a b) in
-        let held : K.Contents → Lookup K.Contents = λ x. Held x in
-        let is : state_at K e.sent ks n ≡ s.0 = ap (λ r. elim r [ Held x ↦ x | Missing ↦ K.start ]) s.2 in
+        let held : K.Contents → Option K.Contents = λ x. Some x in
+        let is : state_at K e.sent ks n ≡ s.0 = ap (λ r. elim r [ Some x ↦ x | None ↦ K.start ]) s.2 in
         s.2 ∙ ap held (sym is)
 
     -- among them the assumed one
-    pub assumed_state_lem : lookup e.sent ks (assumed K L e ks now) ≡ Held (assumed_state K L e ks now)
+    pub assumed_state_lem : lookup e.sent ks (assumed K L e ks now) ≡ Some (assumed_state K L e ks now)
     assumed_state_lem = let u = update_numbers in sent_state_lem (assumed K L e ks now) u.0 u.1.0
 
     -- after a sending it has the new state under the new number
-    pub new_state_lem : lookup (sent_end K L e ks now).sent (sent_states K L e ks now) (new_number K L e ks now) ≡ Held (new_state K L e ks now)
+    pub new_state_lem : lookup (sent_end K L e ks now).sent (sent_states K L e ks now) (new_number K L e ks now) ≡ Some (new_state K L e ks now)
     new_state_lem = by (fixes K L e ks now) (λ f. next_free K L e ks now o (fixes_room K L e ks now o f))
       where
-        by : (b : Bool) → (b ≡ true → free e.sent (e.top + 1) ≡ true) → lookup (cond b (put e.sent (cond b (e.top + 1) e.top)) e.sent) (cond b (stored e.sent ks (cond b (e.top + 1) e.top) e.current) ks) (cond b (e.top + 1) e.top) ≡ Held (cond b e.current (top_state K L e ks now))
+        by : (b : Bool) → (b ≡ true → free e.sent (e.top + 1) ≡ true) → lookup (cond b (put e.sent (cond b (e.top + 1) e.top)) e.sent) (cond b (stored e.sent ks (cond b (e.top + 1) e.top) e.current) ks) (cond b (e.top + 1) e.top) ≡ Some (cond b e.current (top_state K L e ks now))
         by true f = lookup_put_same e.sent ks (e.top + 1) e.current sent_fits (f refl)
         by false f = sent_state_lem e.top o.acknowledged (omega arith)
 

@@ -1,10 +1,8 @@
 -- The ways that a tick and a take can go, each with what is known there.
-use Rattle.std.proofs.Common.{◌≡◌, ℕ, ◌+◌, ◌<◌, ◌≤◌, max, Bool, true, false, not, ◌&&◌, eqb, leb, List, length, get_or, Ok, Err, Result, refl, subst, ⊎_elim}
+use Rattle.std.proofs.Common.{◌≡◌, ℕ, ◌+◌, ◌<◌, ◌≤◌, max, Bool, true, false, not, ◌&&◌, eqb, leb, List, length, get_or, Ok, Err, Result, refl, subst, ⊎_elim, Some, None, Option}
 use Rattle.std.proofs.lemmas.Bool.{cond_both, and_cases, leb-true, leb-false, not-true, not-false, both_ways}
 use Rattle.state.specs.declared.fault.StateFault.{StateFault}
 use Rattle.state.specs.Kind.{Kind}
-use Rattle.window.specs.declared.answers.Lookup.{Lookup}
-use Rattle.window.specs.declared.answers.Lookup.TheVariants.{Held, Missing}
 use Rattle.window.specs.Numbers.{lookup}
 use Rattle.packet.specs.declared.refusal.InstructionFault.{InstructionFault}
 use Rattle.packet.specs.declared.refusal.ReadFault.{ReadFault}
@@ -14,11 +12,11 @@ use Rattle.packet.specs.Sendings.{sent_into}
 use Rattle.packet.specs.Datagrams.{Parcel, read_datagram}
 use Rattle.assembler.specs.Contents.{Contents}
 use Rattle.assembler.specs.Offers.{Outcome, refused, partly, wholly, offered}
-use Rattle.endpoint.specs.declared.answer.Ticked.TheVariants.{Idle, Sent}
-use Rattle.endpoint.specs.declared.answer.Taken.TheVariants.{Part, Again, Baseless}
-use Rattle.endpoint.specs.declared.fault.TickRefusal.{TickRefusal}
-use Rattle.endpoint.specs.declared.fault.TakeFault.{TakeFault}
-use Rattle.endpoint.specs.declared.fault.TakeFault.TheVariants as fault
+use Rattle.protocol.specs.declared.answer.Ticked.TheVariants.{Idle, Sent}
+use Rattle.protocol.specs.declared.answer.Taken.TheVariants.{Part, Again, Baseless}
+use Rattle.protocol.specs.declared.fault.TickRefusal.{TickRefusal}
+use Rattle.protocol.specs.declared.fault.TakeFault.{TakeFault}
+use Rattle.protocol.specs.declared.fault.TakeFault.TheVariants as fault
 use Rattle.endpoint.specs.End.{Holding, latest, both_fit}
 use Rattle.endpoint.specs.Due.{due}
 use Rattle.endpoint.specs.Ticking as tick
@@ -133,9 +131,9 @@ module _ (K L : Kind) (h : Holding K L) where
       ((f : TakeFault) → is_state f ≡ false → P (take.refuses K L h 0 f)) →
       ((g : Parcel) (half : Contents) → Carries time bytes g → offered h.end.half g.piece ≡ partly half → P (record { answer = Ok (Part g.piece.number); end = collected K L h (max h.end.clock time) half; received_store = h.received_store })) →
       ((g : Parcel) (bs : List ℕ) (u : Update) → Reads time bytes g bs u → h.end.received.held u.new ≡ true → P (passed K L h (max h.end.clock time) u (Again u.new))) →
-      ((g : Parcel) (bs : List ℕ) (u : Update) → Reads time bytes g bs u → h.end.received.held u.new ≡ false → lookup h.end.received h.received_store u.old ≡ Missing → P (passed K L h (max h.end.clock time) u (Baseless u.new))) →
-      ((g : Parcel) (bs : List ℕ) (u : Update) (base c : L.Contents) → Reads time bytes g bs u → h.end.received.held u.new ≡ false → lookup h.end.received h.received_store u.old ≡ Held base → L.apply base u.diff ≡ Ok c → P (landed K L h (max h.end.clock time) u c)) →
-      ((g : Parcel) (bs : List ℕ) (u : Update) (base : L.Contents) (f : StateFault) → Reads time bytes g bs u → h.end.received.held u.new ≡ false → lookup h.end.received h.received_store u.old ≡ Held base → L.apply base u.diff ≡ Err f → P (take.refuses K L h 0 (fault.State f))) →
+      ((g : Parcel) (bs : List ℕ) (u : Update) → Reads time bytes g bs u → h.end.received.held u.new ≡ false → lookup h.end.received h.received_store u.old ≡ None → P (passed K L h (max h.end.clock time) u (Baseless u.new))) →
+      ((g : Parcel) (bs : List ℕ) (u : Update) (base c : L.Contents) → Reads time bytes g bs u → h.end.received.held u.new ≡ false → lookup h.end.received h.received_store u.old ≡ Some base → L.apply base u.diff ≡ Ok c → P (landed K L h (max h.end.clock time) u c)) →
+      ((g : Parcel) (bs : List ℕ) (u : Update) (base : L.Contents) (f : StateFault) → Reads time bytes g bs u → h.end.received.held u.new ≡ false → lookup h.end.received h.received_store u.old ≡ Some base → L.apply base u.diff ≡ Err f → P (take.refuses K L h 0 (fault.State f))) →
       P (taken K L h time bytes)
   take_paths time bytes P away part again baseless lands fails =
       cond_both (leb time latest) _ _ P
@@ -147,13 +145,13 @@ module _ (K L : Kind) (h : Holding K L) where
       now : ℕ
       now = max h.end.clock time
 
-      apply : (g : Parcel) (bs : List ℕ) (u : Update) (base : L.Contents) → Reads time bytes g bs u → h.end.received.held u.new ≡ false → lookup h.end.received h.received_store u.old ≡ Held base → (r : Result L.Contents StateFault) → L.apply base u.diff ≡ r → P (applied K L h now u r)
+      apply : (g : Parcel) (bs : List ℕ) (u : Update) (base : L.Contents) → Reads time bytes g bs u → h.end.received.held u.new ≡ false → lookup h.end.received h.received_store u.old ≡ Some base → (r : Result L.Contents StateFault) → L.apply base u.diff ≡ r → P (applied K L h now u r)
       apply g bs u base k n l (Ok c) e = lands g bs u base c k n l e
       apply g bs u base k n l (Err f) e = fails g bs u base f k n l e
 
-      look : (g : Parcel) (bs : List ℕ) (u : Update) → Reads time bytes g bs u → h.end.received.held u.new ≡ false → (r : Lookup L.Contents) → lookup h.end.received h.received_store u.old ≡ r → P (based K L h now u r)
-      look g bs u k n Missing e = baseless g bs u k n e
-      look g bs u k n (Held base) e = apply g bs u base k n e (L.apply base u.diff) refl
+      look : (g : Parcel) (bs : List ℕ) (u : Update) → Reads time bytes g bs u → h.end.received.held u.new ≡ false → (r : Option L.Contents) → lookup h.end.received h.received_store u.old ≡ r → P (based K L h now u r)
+      look g bs u k n None e = baseless g bs u k n e
+      look g bs u k n (Some base) e = apply g bs u base k n e (L.apply base u.diff) refl
 
       instruct : (g : Parcel) (bs : List ℕ) → Carries time bytes g → offered h.end.half g.piece ≡ wholly bs → (r : Result Update InstructionFault) → read_instruction bs ≡ r → P (instructed K L h now r)
       instruct g bs k w (Err f) e = away _ refl
@@ -181,7 +179,7 @@ module _ (K L : Kind) (h : Holding K L) where
       ((f : TakeFault) → P (take.refuses K L h 0 f)) →
       ((g : Parcel) (half : Contents) → Carries time bytes g → offered h.end.half g.piece ≡ partly half → P (record { answer = Ok (Part g.piece.number); end = collected K L h (max h.end.clock time) half; received_store = h.received_store })) →
       ((g : Parcel) (bs : List ℕ) (u : Update) → Reads time bytes g bs u → h.end.received.held u.new ≡ true → P (passed K L h (max h.end.clock time) u (Again u.new))) →
-      ((g : Parcel) (bs : List ℕ) (u : Update) → Reads time bytes g bs u → h.end.received.held u.new ≡ false → lookup h.end.received h.received_store u.old ≡ Missing → P (passed K L h (max h.end.clock time) u (Baseless u.new))) →
-      ((g : Parcel) (bs : List ℕ) (u : Update) (base c : L.Contents) → Reads time bytes g bs u → h.end.received.held u.new ≡ false → lookup h.end.received h.received_store u.old ≡ Held base → L.apply base u.diff ≡ Ok c → P (landed K L h (max h.end.clock time) u c)) →
+      ((g : Parcel) (bs : List ℕ) (u : Update) → Reads time bytes g bs u → h.end.received.held u.new ≡ false → lookup h.end.received h.received_store u.old ≡ None → P (passed K L h (max h.end.clock time) u (Baseless u.new))) →
+      ((g : Parcel) (bs : List ℕ) (u : Update) (base c : L.Contents) → Reads time bytes g bs u → h.end.received.held u.new ≡ false → lookup h.end.received h.received_store u.old ≡ Some base → L.apply base u.diff ≡ Ok c → P (landed K L h (max h.end.clock time) u c)) →
       P (taken K L h time bytes)
   take_ways time bytes P away part again baseless lands = take_paths time bytes P (λ f _. away f) part again baseless lands (λ g bs u base f _ _ _ _. away (fault.State f))

@@ -2,7 +2,7 @@
 use Rattle.std.specs.Prelude.{◌≡◌, ℕ, ◌≤◌, true, List, length, Ok, Err, ◌≢◌}
 use Rattle.state.specs.Kind.{Kind}
 use Rattle.packet.specs.declared.datagram.Direction.{Direction}
-use Rattle.endpoint.specs.declared.fault.TickRefusal.TheVariants.{NotFollowing}
+use Rattle.protocol.specs.declared.fault.TickRefusal.TheVariants.{NotFollowing}
 use Rattle.endpoint.specs.End.{End, Holding, state_at, opened, changed}
 use Rattle.endpoint.specs.Ticking.{AfterTick, ticked}
 use Rattle.endpoint.specs.Taking.{AfterTake, taken}

@@ -1,14 +1,13 @@
 -- An end of the protocol by its contents: what it keeps between calls, and how it is opened, changed and looked at.
-use Rattle.std.specs.Prelude.{ℕ, Bool, cond, ◌&&◌, List, length, replicate, None, Ok, Err, Option, Result, ◌==◌, nat_le, slice_set}
+use Rattle.std.specs.Prelude.{ℕ, Bool, cond, ◌&&◌, List, length, replicate, None, Ok, Err, Option, Result, ◌==◌, nat_le, slice_set, Some}
 use Rattle.state.specs.Kind.{Kind}
-use Rattle.window.specs.declared.answers.Lookup.TheVariants.{Held, Missing}
 use Rattle.window.specs.Numbers.{Numbers, empty, adding, lookup}
 use Rattle.packet.specs.declared.datagram.Direction.{Direction}
 use Rattle.assembler.specs.Contents.{Contents, nothing}
-use Rattle.endpoint.specs.declared.fault.CallRefusal.{CallRefusal}
-use Rattle.endpoint.specs.declared.fault.CallRefusal.TheVariants.{LateTime, WrongStore}
-use Rattle.endpoint.specs.declared.fault.ChangeRefusal.{ChangeRefusal}
-use Rattle.endpoint.specs.declared.fault.ChangeRefusal.TheVariants.{NotFollowing}
+use Rattle.protocol.specs.declared.fault.CallRefusal.{CallRefusal}
+use Rattle.protocol.specs.declared.fault.CallRefusal.TheVariants.{LateTime, WrongStore}
+use Rattle.protocol.specs.declared.fault.ChangeRefusal.{ChangeRefusal}
+use Rattle.protocol.specs.declared.fault.ChangeRefusal.TheVariants.{NotFollowing}
 
 -- what an end keeps that sends states of the kind K and receives states of the kind L
 pub record End (K L : Kind) : Type 0 where
@@ -51,7 +50,7 @@ both_fit xs ys = length xs == 16 && length ys == 16
 
 -- the state under a number, and the start where there is none
 abbrev pub state_at : (K : Kind) → Numbers → List K.Contents → ℕ → K.Contents
-state_at K w xs n = elim (lookup w xs n) [ Held x ↦ x | Missing ↦ K.start ]
+state_at K w xs n = elim (lookup w xs n) [ Some x ↦ x | None ↦ K.start ]
 
 module _ (K L : Kind) where
   -- an end that has just been opened: every number is 0, with the start states

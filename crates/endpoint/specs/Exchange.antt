@@ -6,8 +6,8 @@ use Rattle.journal.specs.declared.entry.Entry.TheVariants.{Tap}
 use Rattle.journal.specs.Journals.{journal_kind}
 use Rattle.screen.specs.Screen.{screen_kind}
 use Rattle.packet.specs.declared.datagram.Direction.TheVariants.{TowardDepot, TowardReader}
-use Rattle.endpoint.specs.declared.answer.Ticked.TheVariants.{Idle, Sent}
-use Rattle.endpoint.specs.declared.answer.Taken.TheVariants.{Shown}
+use Rattle.protocol.specs.declared.answer.Ticked.TheVariants.{Idle, Sent}
+use Rattle.protocol.specs.declared.answer.Taken.TheVariants.{Shown}
 use Rattle.endpoint.specs.End.{Holding, fresh, with_current, changed, looked}
 use Rattle.endpoint.specs.Ticking.{AfterTick, ticked}
 use Rattle.endpoint.specs.Taking.{AfterTake, taken}

@@ -4,6 +4,5 @@ pub mod Edges
 pub mod End
 pub mod Exchange
 pub mod Own
-pub mod Refusals
 pub mod Taking
 pub mod Ticking

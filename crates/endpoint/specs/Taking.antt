@@ -2,8 +2,6 @@
 use Rattle.std.specs.Prelude.{ℕ, max, cond, List, Some, None, Ok, Err, Option, Result, nat_le, nat_lt}
 use Rattle.state.specs.declared.fault.StateFault.{StateFault}
 use Rattle.state.specs.Kind.{Kind}
-use Rattle.window.specs.declared.answers.Lookup.{Lookup}
-use Rattle.window.specs.declared.answers.Lookup.TheVariants.{Held, Missing}
 use Rattle.window.specs.Numbers.{Numbers, put, raise, stored, lookup}
 use Rattle.packet.specs.declared.refusal.InstructionFault.{InstructionFault}
 use Rattle.packet.specs.declared.refusal.InstructionFault.TheVariants.{AckAhead}
@@ -14,11 +12,11 @@ use Rattle.packet.specs.Instructions.{Update, read_instruction}
 use Rattle.packet.specs.Datagrams.{Parcel, read_datagram}
 use Rattle.assembler.specs.Contents.{Contents, nothing}
 use Rattle.assembler.specs.Offers.{Outcome, refused, partly, wholly, offered}
-use Rattle.endpoint.specs.declared.answer.Taken.{Taken}
-use Rattle.endpoint.specs.declared.answer.Taken.TheVariants.{Part, Shown, Filled, Again, Baseless}
-use Rattle.endpoint.specs.declared.fault.CallRefusal.TheVariants.{LateTime, WrongStore}
-use Rattle.endpoint.specs.declared.fault.TakeFault.{TakeFault}
-use Rattle.endpoint.specs.declared.fault.TakeFault.TheVariants as fault
+use Rattle.protocol.specs.declared.answer.Taken.{Taken}
+use Rattle.protocol.specs.declared.answer.Taken.TheVariants.{Part, Shown, Filled, Again, Baseless}
+use Rattle.protocol.specs.declared.fault.CallRefusal.TheVariants.{LateTime, WrongStore}
+use Rattle.protocol.specs.declared.fault.TakeFault.{TakeFault}
+use Rattle.protocol.specs.declared.fault.TakeFault.TheVariants as fault
 use Rattle.endpoint.specs.End.{End, Holding, latest, both_fit}
 
 -- what a take answers, and the end and the store of received states that it leaves
@@ -104,9 +102,9 @@ module _ (K L : Kind) (h : Holding K L) (now : ℕ) where
   applied u (Err f) = refuses (fault.State f)
 
   -- an instruction whose new number isn't held: its base is held, or it is baseless
-  abbrev pub based : Update → Lookup L.Contents → AfterTake K L
-  based u Missing = passed u (Baseless u.new)
-  based u (Held base) = applied u (L.apply base u.diff)
+  abbrev pub based : Update → Option L.Contents → AfterTake K L
+  based u None = passed u (Baseless u.new)
+  based u (Some base) = applied u (L.apply base u.diff)
 
   -- an instruction whose ack is one of the numbers sent
   abbrev pub followed : Update → AfterTake K L

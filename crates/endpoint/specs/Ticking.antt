@@ -6,10 +6,10 @@ use Rattle.packet.specs.declared.sending.Sent.{Sent as Count}
 use Rattle.packet.specs.Pieces.{piece_count}
 use Rattle.packet.specs.Instructions.{Update, instruction_bytes}
 use Rattle.packet.specs.Sendings.{sent_into, sending_bytes}
-use Rattle.endpoint.specs.declared.answer.Ticked.{Ticked}
-use Rattle.endpoint.specs.declared.answer.Ticked.TheVariants.{Idle, Sent}
-use Rattle.endpoint.specs.declared.fault.TickRefusal.{TickRefusal}
-use Rattle.endpoint.specs.declared.fault.TickRefusal.TheVariants.{LateTime, WrongStore, ShortBuffer, NotFollowing, NoSendingsLeft, LongDiff}
+use Rattle.protocol.specs.declared.answer.Ticked.{Ticked}
+use Rattle.protocol.specs.declared.answer.Ticked.TheVariants.{Idle, Sent}
+use Rattle.protocol.specs.declared.fault.TickRefusal.{TickRefusal}
+use Rattle.protocol.specs.declared.fault.TickRefusal.TheVariants.{LateTime, WrongStore, ShortBuffer, NotFollowing, NoSendingsLeft, LongDiff}
 use Rattle.endpoint.specs.Due.{Facts, due, patience, since}
 use Rattle.endpoint.specs.End.{End, Holding, latest, both_fit, state_at}
 

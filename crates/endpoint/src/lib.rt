@@ -1,7 +1,7 @@
-// An end of the protocol: what its calls answer, and why they refuse.
+// An end of the protocol: what its calls answer and why they refuse, and theorems of the definitions.
 #![tactic(auto)]
 
-pub mod answer;
 pub mod edges;
-pub mod fault;
 pub mod own;
+
+pub use protocol::{answer, fault};

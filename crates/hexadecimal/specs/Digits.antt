@@ -1,5 +1,7 @@
 -- Two digits of hexadecimal, and the byte that they write.
-use Rattle.std.specs.Prelude.{ℕ, ◌+◌, ◌-◌, ◌*◌, cond, ◌&&◌, List, [], ◌∷◌, Some, None, Option, nat_le}
+use Rattle.std.specs.Prelude.{ℕ, ◌+◌, ◌-◌, ◌*◌, cond, ◌&&◌, List, [], ◌∷◌, map, Some, None, Option, ◌==◌, nat_le}
+use Rattle.std.specs.List.{slice_split}
+use Rattle.std.specs.Option.{some_prefix}
 
 -- the value of a character: 0 to 9, and A to F for 10 to 15
 abbrev pub digit_of : ℕ → Option ℕ
@@ -17,3 +19,7 @@ byte_of [] = None
 byte_of (h ∷ []) = None
 byte_of (h ∷ (l ∷ [])) = joined (digit_of h) (digit_of l)
 byte_of (h ∷ (l ∷ (m ∷ bs))) = None
+
+-- the bytes that the words of a text write, up to the first word that writes none; a space parts two words
+abbrev pub bytes_of : List ℕ → List ℕ
+bytes_of text = some_prefix (map byte_of (slice_split (λ b. b == 32) text))

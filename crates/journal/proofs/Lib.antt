@@ -1,3 +1,4 @@
 pub mod Pushes
 pub mod Sizes
 pub mod Taking
+pub mod Same

@@ -1,17 +1,17 @@
 -- A diff's entries taken in one by one.
-use Rattle.std.proofs.Common.{◌≡◌, ℕ, ◌+◌, ◌-◌, ◌<◌, ◌≤◌, min, cond, leb, List, [], ◌∷◌, ◌++◌, length, take, drop, set, Some, None, Ok, Err, Option, Result, sym, refl, ap, ◌∙◌, inl, inr, arith}
-use Rattle.std.proofs.lemmas.List.{append_assoc, append-nil, drop_all, drop-drop, length-append, length-drop, length_push, length-set, length-take, length-take-le, take_all, take-append-le, take_at, take_more_set}
+use Rattle.std.proofs.Common.{◌≡◌, ℕ, ◌+◌, ◌-◌, ◌<◌, ◌≤◌, min, cond, leb, List, [], ◌∷◌, ◌++◌, length, take, drop, set, Some, None, Ok, Option, Result, sym, refl, ap, ◌∙◌, inl, inr, arith}
+use Rattle.std.proofs.lemmas.List.{append_assoc, append-nil, length-append, length-drop, length_push, length-set, length-take, length-take-le, nil_from_length, take_all, take-append-le, take_at, take_more_set}
 use Rattle.std.proofs.lemmas.Bool.{cases_lt, cond-true, cond-false, le-leb, lt-leb}
+use Rattle.std.specs.Option.{option_or}
 use Rattle.state.specs.declared.fault.StateFault.{StateFault}
-use Rattle.state.specs.declared.fault.StateFault.TheVariants.{BadEntry, TooManyEntries}
 use Rattle.state.specs.Parts.{parts}
-use Rattle.state.proofs.Cuts.{parts_good, parts_bad}
+use Rattle.state.proofs.Cuts.{parts_good}
 use Rattle.journal.specs.declared.entry.Entry.{Entry}
 use Rattle.journal.specs.declared.journal.Journal.{Journal}
 use Rattle.journal.specs.Entries.{entry_at, entry_bytes, entries_bytes, entries_in, one_more}
 use Rattle.journal.specs.Journals.{Contents, applied, grown, reading}
-use Rattle.journal.specs.Bytes.{applied_bad, applied_good, bytes_append, entry_fits, more, no_more, width_pos}
-use Rattle.journal.specs.Rows.{few_no, few_yes, reading_is}
+use Rattle.journal.specs.Bytes.{applied_good, bytes_append, entry_fits, more, width_pos}
+use Rattle.journal.specs.Rows.{few_yes, reading_is}
 
 -- where the first entry too many begins, if there is one: `old` entries were there before `es`
 abbrev pub overflow : ℕ → List Entry → Option ℕ
@@ -21,18 +21,22 @@ overflow old es = cond (leb (old + length es) 64) None (Some (length (entries_by
 abbrev pub below : Journal → List Entry
 below j = take j.count j.entries
 
--- what holds once the entries es, which are the bytes before `at`, have been taken into the journal j₀
-pub record Sofar (j₀ : Journal) (d : List ℕ) (at : ℕ) (full : Option ℕ) (j : Journal) (es : List Entry) : Type 0 where
-  pub left : parts one_more es at 0 (drop at d) ≡ entries_in d
-  pub place : at ≡ length (entries_bytes es)
-  pub inside : at ≤ length d
+-- what holds once the entries es have been taken into the journal j₀ and `rest` is left of the diff d
+pub record Sofar (j₀ : Journal) (d rest : List ℕ) (full : Option ℕ) (j : Journal) (es : List Entry) : Type 0 where
+  pub left : parts one_more es (length d - length rest) 0 rest ≡ entries_in d
+  pub place : length d - length rest ≡ length (entries_bytes es)
+  pub inside : length rest ≤ length d
   pub held : below j ≡ take 64 (below j₀ ++ es)
   pub bound : j.count ≤ 64
   pub whole : length j.entries ≡ 64
   pub over : full ≡ overflow j₀.count es
 
-abbrev pub IsSofar : Journal → List ℕ → ℕ → Option ℕ → Journal → Type 0
-IsSofar j₀ d at full j = (es : List Entry) × Sofar j₀ d at full j es
+abbrev pub IsSofar : Journal → List ℕ → List ℕ → Option ℕ → Journal → Type 0
+IsSofar j₀ d rest full j = (es : List Entry) × Sofar j₀ d rest full j es
+
+or_is : (o : Option ℕ) (n : ℕ) (x : Option ℕ) → (o ≡ None → Some n ≡ x) → ((p : ℕ) → o ≡ Some p → o ≡ x) → option_or o (Some n) ≡ x
+or_is None n x none some = none refl
+or_is (Some p) n x none some = some p refl
 
 module _ (j₀ : Journal) (d : List ℕ) (bound₀ : j₀.count ≤ 64) (whole₀ : length j₀.entries ≡ 64) where
   length_old : length (below j₀) ≡ j₀.count
@@ -47,12 +51,12 @@ module _ (j₀ : Journal) (d : List ℕ) (bound₀ : j₀.count ≤ 64) (whole�
   all_held : (es : List Entry) → j₀.count + length es ≤ 64 → take 64 (below j₀ ++ es) ≡ below j₀ ++ es
   all_held es h = take_all 64 (below j₀ ++ es) (omega (arith, length-append (below j₀) es, length_old))
 
-  pub begun : IsSofar j₀ d 0 None j₀
+  pub begun : IsSofar j₀ d d None j₀
   begun = (
     [],
     record {
-      left = refl;
-      place = refl;
+      left = ap (λ n. parts one_more [] n 0 d) (omega arith);
+      place = omega arith;
       inside = omega arith;
       held = sym (all_held [] (omega arith) ∙ append-nil (below j₀));
       bound = bound₀;
@@ -64,13 +68,7 @@ module _ (j₀ : Journal) (d : List ℕ) (bound₀ : j₀.count ≤ 64) (whole�
   reading₀ : (reading j₀).0 ≡ below j₀
   reading₀ = reading_is j₀ ∙ cond-true _ _ _ (le-leb _ 64 bound₀)
 
-  module _ (at : ℕ) (full : Option ℕ) (j : Journal) (es : List Entry) (s : Sofar j₀ d at full j es) where
-    -- a part that is no whole entry
-    pub bad : at < length d → entry_at (drop at d) ≡ None → applied (reading j₀) d ≡ Err (BadEntry at)
-    bad h none =
-        applied_bad (reading j₀) d at
-        (sym s.left ∙ parts_bad one_more es at (drop at d) (omega (arith, length-drop at d)) (no_more es (drop at d) none))
-
+  module _ (rest : List ℕ) (full : Option ℕ) (j : Journal) (es : List Entry) (s : Sofar j₀ d rest full j es) where
     held_count : j.count ≡ min 64 (j₀.count + length es)
     held_count =
         omega (arith, ap length s.held, length-take-le j.count j.entries (omega (arith, s.bound, s.whole)), length-take 64 (below j₀ ++ es), length-append (below j₀) es, length_old)
@@ -84,53 +82,45 @@ module _ (j₀ : Journal) (d : List ℕ) (bound₀ : j₀.count ≤ 64) (whole�
         elim (cases_lt 64 (j₀.count + length es)) [ inl h ↦ (h, cc (some, s.over, spills es h)) | inr h ↦ (let z : ◌≡◌ {A = ℕ} 0 1 = cc (some, s.over, fits es h) in absurd (omega arith)) ]
 
     -- the end of the diff
-    done : length d ≤ at → applied (reading j₀) d ≡ grown (reading j₀) es
-    done h = applied_good (reading j₀) d es (sym s.left ∙ ap (parts one_more es at 0) (drop_all at d h))
+    done : length rest ≡ 0 → applied (reading j₀) d ≡ grown (reading j₀) es
+    done h = applied_good (reading j₀) d es (sym s.left ∙ ap (parts one_more es _ 0) (nil_from_length rest h))
 
-    length_read : length (reading j₀).0 ≡ j₀.count
-    length_read = ap length reading₀ ∙ length_old
-
-    pub done_over : length d ≤ at → (p : ℕ) → full ≡ Some p → applied (reading j₀) d ≡ Err (TooManyEntries p)
-    done_over h p some =
-        let o = some_spills p some in
-        let err : ℕ → Result Contents StateFault = λ n. Err (TooManyEntries n) in
-        let at_old : ℕ → Result Contents StateFault = λ n. Err (TooManyEntries (length (entries_bytes (take (64 - n) es)))) in
-        done h
-        ∙ few_no ((reading j₀).0 ++ es) (λ t. Ok t) _ (omega (arith, length-append (reading j₀).0 es, length_read, o.0))
-        ∙ ap at_old length_read
-        ∙ ap err (sym o.1)
-
-    pub done_ok : length d ≤ at → full ≡ None → applied (reading j₀) d ≡ Ok (reading j)
+    pub done_ok : length rest ≡ 0 → full ≡ None → applied (reading j₀) d ≡ Ok (reading j)
     done_ok h none =
         let ok : Contents → Result Contents StateFault = λ t. Ok t in
         let now-held : (reading j).0 ≡ below j₀ ++ es = reading_is j ∙ cond-true _ _ _ (le-leb _ 64 s.bound) ∙ s.held ∙ all_held es (none_fits none) in
         done h ∙ few_yes ((reading j₀).0 ++ es) ok _ (reading j) (ap (λ x. x ++ es) reading₀ ∙ sym now-held)
 
     -- one entry more
-    module _ (e : Entry) (w : ℕ) (h : at < length d) (is : entry_at (drop at d) ≡ Some e) (w-is : w ≡ length (entry_bytes e)) where
-      within : length (entry_bytes e) ≤ length (drop at d)
-      within = entry_fits (drop at d) e is
+    module _ (e : Entry) (rest' : List ℕ) (is : entry_at rest ≡ Some e) (rest-is : rest' ≡ drop (length (entry_bytes e)) rest) where
+      within : length (entry_bytes e) ≤ length rest
+      within = entry_fits rest e is
 
-      pub inside_more : at + w ≤ length d
-      inside_more = omega (arith, within, length-drop at d)
+      at_more : length d - length rest' ≡ length d - length rest + length (entry_bytes e)
+      at_more = omega (arith, within, s.inside, ap length rest-is, length-drop (length (entry_bytes e)) rest)
 
-      left_more : parts one_more (es ++ (e ∷ [])) (at + w) 0 (drop (at + w) d) ≡ entries_in d
+      left_more : parts one_more (es ++ (e ∷ [])) (length d - length rest') 0 rest' ≡ entries_in d
       left_more =
-          ap (parts one_more (es ++ (e ∷ [])) (at + w) 0) (sym (drop-drop w at d))
-          ∙ ap (λ n. parts one_more (es ++ (e ∷ [])) (at + n) 0 (drop n (drop at d))) w-is
-          ∙ sym (parts_good one_more es (es ++ (e ∷ [])) at (length (entry_bytes e)) (drop at d) (width_pos e) within (more es (drop at d) e is))
+          ap (λ n. parts one_more (es ++ (e ∷ [])) n 0 rest') at_more
+          ∙ ap (parts one_more (es ++ (e ∷ [])) (length d - length rest + length (entry_bytes e)) 0) rest-is
+          ∙ sym (parts_good one_more es (es ++ (e ∷ [])) (length d - length rest) (length (entry_bytes e)) rest (width_pos e) within (more es rest e is))
           ∙ s.left
 
-      place_more : at + w ≡ length (entries_bytes (es ++ (e ∷ [])))
-      place_more = omega (arith, s.place, ap length (bytes_append es (e ∷ [])), length-append (entries_bytes es) (entries_bytes (e ∷ [])), ap length (append-nil (entry_bytes e)))
+      place_more : length d - length rest' ≡ length (entries_bytes (es ++ (e ∷ [])))
+      place_more = omega (arith, at_more, s.place, ap length (bytes_append es (e ∷ [])), length-append (entries_bytes es) (entries_bytes (e ∷ [])), ap length (append-nil (entry_bytes e)))
+
+      inside_more : length rest' ≤ length d
+      inside_more = omega (arith, s.inside, ap length rest-is, length-drop (length (entry_bytes e)) rest)
+
+      longer : length (es ++ (e ∷ [])) ≡ length es + 1
+      longer = length_push es e
 
       regroup : below j₀ ++ (es ++ (e ∷ [])) ≡ (below j₀ ++ es) ++ (e ∷ [])
       regroup = sym (append_assoc (below j₀) es (e ∷ []))
 
-      pub with_room : j.count < 64 → Sofar j₀ d (at + w) full (record { entries = set j.entries j.count e; count = j.count + 1 }) (es ++ (e ∷ []))
+      pub with_room : j.count < 64 → Sofar j₀ d rest' full (record { entries = set j.entries j.count e; count = j.count + 1 }) (es ++ (e ∷ []))
       with_room room =
           let few' : j₀.count + length es < 64 = omega (arith, held_count) in
-          let longer : length (es ++ (e ∷ [])) ≡ length es + 1 = length_push es e in
           record {
             left = left_more;
             place = place_more;
@@ -145,37 +135,27 @@ module _ (j₀ : Journal) (d : List ℕ) (bound₀ : j₀.count ≤ 64) (whole�
             over = s.over ∙ fits es (omega arith) ∙ sym (fits (es ++ (e ∷ [])) (omega (arith, longer)));
           }
 
-      held_full : 64 ≤ j.count → below j ≡ take 64 (below j₀ ++ (es ++ (e ∷ [])))
-      held_full full' =
-          s.held ∙ sym (ap (take 64) regroup ∙ take-append-le 64 (below j₀ ++ es) (e ∷ []) (omega (arith, held_count, length-append (below j₀) es, length_old)))
+      abbrev some : ℕ → Option ℕ
+      some n = Some n
 
-      pub first_over : 64 ≤ j.count → full ≡ None → Sofar j₀ d (at + w) (Some at) j (es ++ (e ∷ []))
+      first_over : 64 ≤ j.count → full ≡ None → ◌≡◌ {A = Option ℕ} (Some (length d - length rest)) (overflow j₀.count (es ++ (e ∷ [])))
       first_over full' none =
-          let longer : length (es ++ (e ∷ [])) ≡ length es + 1 = length_push es e in
-          let some : ℕ → Option ℕ = λ n. Some n in
           let before : take (64 - j₀.count) (es ++ (e ∷ [])) ≡ es = take_at es (e ∷ []) (64 - j₀.count) (omega (arith, held_count, none_fits none)) in
-          record {
-            left = left_more;
-            place = place_more;
-            inside = inside_more;
-            held = held_full full';
-            bound = s.bound;
-            whole = s.whole;
-            over = ap some (s.place ∙ ap (λ x. length (entries_bytes x)) (sym before)) ∙ sym (spills (es ++ (e ∷ [])) (omega (arith, longer, held_count)));
-          }
+          ap some (s.place ∙ ap (λ x. length (entries_bytes x)) (sym before)) ∙ sym (spills (es ++ (e ∷ [])) (omega (arith, longer, held_count)))
 
-      pub still_over : 64 ≤ j.count → (p : ℕ) → full ≡ Some p → Sofar j₀ d (at + w) full j (es ++ (e ∷ []))
-      still_over full' p some =
-          let o = some_spills p some in
-          let longer : length (es ++ (e ∷ [])) ≡ length es + 1 = length_push es e in
-          let there : ℕ → Option ℕ = λ n. Some n in
+      still_over : (p : ℕ) → full ≡ Some p → full ≡ overflow j₀.count (es ++ (e ∷ []))
+      still_over p is_some =
+          let o = some_spills p is_some in
           let before : take (64 - j₀.count) (es ++ (e ∷ [])) ≡ take (64 - j₀.count) es = take-append-le (64 - j₀.count) es (e ∷ []) (omega (arith, o.0)) in
-          record {
-            left = left_more;
-            place = place_more;
-            inside = inside_more;
-            held = held_full full';
-            bound = s.bound;
-            whole = s.whole;
-            over = s.over ∙ spills es o.0 ∙ ap there (ap (λ x. length (entries_bytes x)) (sym before)) ∙ sym (spills (es ++ (e ∷ [])) (omega (arith, longer, o.0)));
-          }
+          s.over ∙ spills es o.0 ∙ ap some (ap (λ x. length (entries_bytes x)) (sym before)) ∙ sym (spills (es ++ (e ∷ [])) (omega (arith, longer, o.0)))
+
+      pub no_room : 64 ≤ j.count → Sofar j₀ d rest' (option_or full (Some (length d - length rest))) j (es ++ (e ∷ []))
+      no_room full' = record {
+        left = left_more;
+        place = place_more;
+        inside = inside_more;
+        held = s.held ∙ sym (ap (take 64) regroup ∙ take-append-le 64 (below j₀ ++ es) (e ∷ []) (omega (arith, held_count, length-append (below j₀) es, length_old)));
+        bound = s.bound;
+        whole = s.whole;
+        over = or_is full _ _ (first_over full') still_over;
+      }

@@ -1,56 +1,55 @@
 // A journal with one entry more.
-ghost use Rattle.std.specs.Prelude.{◌≡◌};
+ghost use Rattle.std.specs.Prelude.{◌≡◌, ◌≤◌, length, Ok, Err};
 ghost use Rattle.journal.specs.Journals.{reading as contents};
 ghost use Rattle.journal.specs.Edits.{edited, keyed, pushed, tapped};
 
 use crate::entry::Entry;
 use crate::journal::Journal;
-use crate::kind::copied;
 use state::fault::EditRefusal;
 
-// A copy with the entry behind the others, if there is room.
-fn push(journal: &Journal, entry: Entry) -> Result<Journal, EditRefusal>
-    ensures { edited result ≡ pushed (contents journal.now) entry }
-{
-    let mut next = copied(journal);
-    let at = next.count;
-    if at >= 64 {
-        return Err(EditRefusal::Full);
-    }
-    next.entries[at] = entry;
-    next.count = at + 1;
-    Ok(next)
-}
-
 impl Journal {
+    // Puts an entry behind the others; a full journal is refused.
+    #[tactic(auto, unfolding(crate::specs::Edits::pushed))]
+    fn push(&mut self, entry: Entry) -> Result<(), EditRefusal>
+        requires { (self.old.count ≤ 64) × (length self.old.entries ≡ 64) }
+        ensures { elim result [ Ok u ↦ pushed (contents self.old) entry ≡ Ok (contents self.new) | Err f ↦ pushed (contents self.old) entry ≡ Err f ] }
+    {
+        let at = self.count;
+        if at >= 64 {
+            return Err(EditRefusal::Full);
+        }
+        self.entries[at] = entry;
+        self.count = at + 1;
+        Ok(())
+    }
+
     // The journal with an entry more; a full one is refused.
     pub fn with_entry(&self, entry: Entry) -> Result<Journal, EditRefusal>
         ensures { edited result ≡ pushed (contents self.now) entry }
     {
-        push(self, entry)
+        let mut next = self.copied();
+        next.push(entry)?;
+        Ok(next)
     }
 
     // The journal with a key more; a code above 255 is refused before a full journal.
     pub fn with_key(&self, code: u32) -> Result<Journal, EditRefusal>
         ensures { edited result ≡ keyed (contents self.now) code }
     {
-        match u8::try_from(code) {
-            Ok(code) => self.with_entry(Entry::Key { code }),
-            Err(_) => Err(EditRefusal::OutsideField),
-        }
+        let code = u8::try_from(code).map_err(|_| EditRefusal::OutsideField)?;
+        self.with_entry(Entry::Key { code })
     }
 
     // The journal with a tap more; a fare or balance above 65,535 is refused before a full journal.
     pub fn with_tap(&self, card: u32, fare: u32, balance: u32) -> Result<Journal, EditRefusal>
         ensures { edited result ≡ tapped (contents self.now) card fare balance }
     {
-        match (u16::try_from(fare), u16::try_from(balance)) {
-            (Ok(fare), Ok(balance)) => self.with_entry(Entry::Tap {
-                card,
-                fare,
-                balance,
-            }),
-            _ => Err(EditRefusal::OutsideField),
-        }
+        let fare = u16::try_from(fare).map_err(|_| EditRefusal::OutsideField)?;
+        let balance = u16::try_from(balance).map_err(|_| EditRefusal::OutsideField)?;
+        self.with_entry(Entry::Tap {
+            card,
+            fare,
+            balance,
+        })
     }
 }

@@ -1,11 +1,10 @@
 // A journal as a kind of state.
-ghost use Rattle.std.specs.Prelude.{◌≡◌, ◌≤◌, true, false, ◌++◌, length, drop, MatchOption};
+ghost use Rattle.std.specs.Prelude.{◌≡◌, ◌≤◌, ◌++◌, length, drop};
 ghost use Rattle.journal.specs.Entries.{entries_bytes};
-ghost use Rattle.journal.specs.Journals.{journal_kind, reading as contents, begins, same_entries, Taken};
+ghost use Rattle.journal.specs.Journals.{journal_kind, reading as contents, Taken};
 ghost use Rattle.journal.specs.Rows.{journal_exact, journal_itself, journal_onward};
 ghost use Rattle.journal.specs.Bytes.{journal_reaches};
 
-use crate::entry;
 use crate::entry::Entry;
 use crate::journal::Journal;
 use state::fault::{DiffRefusal, StateFault};
@@ -18,48 +17,52 @@ impl Journal {
         ensures bound { length result.now ≤ 64 }
     {
         if self.count <= 64 {
-            &self.entries[0..self.count]
+            &self.entries[..self.count]
         } else {
-            &self.entries[0..0]
+            &[]
         }
     }
-}
 
-// Whether two lists of entries are the same.
-fn same_entries(a: &[Entry], b: &[Entry]) -> bool
-    ensures { result ≡ same_entries a.now b.now }
-{
-    a == b
-}
+    // A journal of the same entries, with nothing beyond them.
+    pub(crate) fn copied(&self) -> Journal
+        ensures same { contents result ≡ contents self.now }
+        ensures bound { result.count ≤ 64 }
+        ensures whole { length result.entries ≡ 64 }
+    {
+        let held = self.entries();
+        let mut entries = [Entry::Key { code: 0 }; 64];
+        entries[..held.len()].copy_from_slice(held);
+        Journal {
+            entries,
+            count: held.len(),
+        }
+    }
 
-// The entries behind those of `old`, if `all` begins with these.
-fn added_since<'a>(all: &'a [Entry], old: &[Entry]) -> Option<&'a [Entry]>
-    ensures { MatchOption result (begins old.now all.now ≡ false) (λ s. (begins old.now all.now ≡ true) × (s.now ≡ drop (length old.now) all.now)) }
-{
-    all.strip_prefix(old)
-}
-
-// Copies entries to the front of others, and leaves the rest.
-fn copy_front(dest: &mut [Entry], src: &[Entry])
-    requires { length src.now ≤ length dest.old }
-    ensures { dest.new ≡ src.now ++ drop (length src.now) dest.old }
-{
-    let n = src.len();
-    dest[0..n].copy_from_slice(src);
-}
-
-// A journal of the same entries, with nothing beyond them.
-pub(crate) fn copied(journal: &Journal) -> Journal
-    ensures same { contents result ≡ contents journal.now }
-    ensures bound { result.count ≤ 64 }
-    ensures whole { length result.entries ≡ 64 }
-{
-    let held = journal.entries();
-    let mut entries = [Entry::Key { code: 0 }; 64];
-    copy_front(&mut entries, held);
-    Journal {
-        entries,
-        count: held.len(),
+    // Takes the entries of a diff in, some of which a refusal may leave.
+    fn take_entries(&mut self, d: &[u8]) -> Result<(), StateFault>
+        requires { (self.old.count ≤ 64) × (length self.old.entries ≡ 64) }
+        ensures { Taken self.old d.now self.new result }
+    {
+        let mut rest = d;
+        let mut full = None;
+        // Stays: nothing is counted, since the place is how much is gone; an iterator of entries would need that place beside each, and a case for a bad one.
+        while !rest.is_empty() {
+            let at = d.len() - rest.len();
+            let Some((entry, behind)) = Entry::read(rest) else {
+                return Err(StateFault::BadEntry { at });
+            };
+            if self.count < 64 {
+                self.entries[self.count] = entry;
+                self.count += 1;
+            } else {
+                full = full.or(Some(at));
+            }
+            rest = behind;
+        }
+        match full {
+            Some(at) => Err(StateFault::TooManyEntries { at }),
+            None => Ok(()),
+        }
     }
 }
 
@@ -68,11 +71,7 @@ fn bytes_of(entries: &[Entry]) -> usize
     requires { length entries.now ≤ 64 }
     ensures { result ≡ length (entries_bytes entries.now) }
 {
-    let mut n = 0;
-    for e in entries {
-        n += entry::width(*e);
-    }
-    n
+    entries.iter().map(|entry| entry.width()).sum()
 }
 
 // Writes the entries one after the other at the front of `out`.
@@ -80,35 +79,10 @@ fn put_all(entries: &[Entry], out: &mut [u8])
     requires { length (entries_bytes entries.now) ≤ length out.old }
     ensures { out.new ≡ entries_bytes entries.now ++ drop (length (entries_bytes entries.now)) out.old }
 {
-    let mut at = 0;
-    for e in entries {
-        entry::put(*e, &mut out[at..]);
-        at += entry::width(*e);
-    }
-}
-
-// Takes the entries of a diff into a journal, which a refusal may leave with some of them.
-fn take_entries(journal: &mut Journal, d: &[u8]) -> Result<(), StateFault>
-    requires { (journal.old.count ≤ 64) × (length journal.old.entries ≡ 64) }
-    ensures { Taken journal.old d.now journal.new result }
-{
-    let mut at = 0;
-    let mut full = None;
-    while at < d.len() {
-        let Some(e) = entry::read(&d[at..]) else {
-            return Err(StateFault::BadEntry { at });
-        };
-        if journal.count < 64 {
-            journal.entries[journal.count] = e;
-            journal.count += 1;
-        } else if full.is_none() {
-            full = Some(at);
-        }
-        at += entry::width(e);
-    }
-    match full {
-        Some(at) => Err(StateFault::TooManyEntries { at }),
-        None => Ok(()),
+    if let [first, others @ ..] = entries {
+        let (front, rest) = out.split_at_mut(first.width());
+        first.put(front);
+        put_all(others, rest);
     }
 }
 
@@ -132,23 +106,27 @@ impl State for Journal {
         }
     }
 
+    #[tactic(auto, using(crate::proofs::Same::slices_same))]
     fn same(&self, other: &Journal) -> bool {
-        same_entries(self.entries(), other.entries())
+        self.entries() == other.entries()
     }
 
+    #[tactic(auto, using(crate::proofs::Same::slices_same))]
     fn follows(&self, base: &Journal) -> bool {
-        added_since(self.entries(), base.entries()).is_some()
+        self.entries().starts_with(base.entries())
     }
 
+    #[tactic(auto, using(crate::proofs::Same::front_same))]
     fn size(&self, base: &Journal) -> usize {
-        match added_since(self.entries(), base.entries()) {
+        match self.entries().strip_prefix(base.entries()) {
             Some(added) => bytes_of(added),
             None => 0,
         }
     }
 
+    #[tactic(auto, using(crate::proofs::Same::front_same))]
     fn diff(&self, base: &Journal, out: &mut [u8]) -> Result<usize, DiffRefusal> {
-        let Some(added) = added_since(self.entries(), base.entries()) else {
+        let Some(added) = self.entries().strip_prefix(base.entries()) else {
             return Err(DiffRefusal::NotFollowing);
         };
         let n = bytes_of(added);
@@ -160,8 +138,8 @@ impl State for Journal {
     }
 
     fn apply(&mut self, d: &[u8]) -> Result<(), StateFault> {
-        let mut next = copied(self);
-        take_entries(&mut next, d)?;
+        let mut next = self.copied();
+        next.take_entries(d)?;
         *self = next;
         Ok(())
     }

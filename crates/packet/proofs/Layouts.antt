@@ -1,5 +1,5 @@
 -- Each layout is read back as it was written, and only such bytes are read.
-use Rattle.std.proofs.Common.{◌≡◌, ℕ, ◌+◌, ◌%◌, ◌<◌, ◌≤◌, Bool, true, false, cond, ◌&&◌, eqb, leb, ◌⊎◌, List, ◌∷◌, ◌++◌, length, get_or, take, drop, Ok, Err, Result, sym, refl, ap, ◌∙◌, subst, inl, inr, ⊎_elim, arith}
+use Rattle.std.proofs.Common.{◌≡◌, ℕ, ◌+◌, ◌%◌, ◌<◌, ◌≤◌, Bool, true, false, cond, leb, ◌⊎◌, List, ◌∷◌, ◌++◌, length, get_or, take, drop, Ok, Err, Result, sym, refl, ap, ◌∙◌, subst, inl, inr, ⊎_elim, arith}
 use Rattle.std.proofs.lemmas.List.{drop_more, drop-drop, drop_at, length-drop, length-append, take-append-drop, get_or-drop}
 use Rattle.std.proofs.lemmas.Bool.{cond-true, cond-false, and_parts, and_from, le-leb, lt-leb, leb-true, eqb-true, cases_lt}
 use Rattle.std.proofs.lemmas.Bool.Decides.{nat_tests}
@@ -15,7 +15,7 @@ use Rattle.packet.specs.declared.datagram.Direction.{Direction}
 use Rattle.packet.specs.declared.datagram.Direction.TheVariants.{TowardDepot, TowardReader}
 use Rattle.packet.specs.Eight.{eight, of_eight}
 use Rattle.packet.specs.Pieces.{Piece}
-use Rattle.packet.specs.Instructions.{Update, together, instruction_bytes, fields_of, read_instruction}
+use Rattle.packet.specs.Instructions.{Update, together, instruction_bytes, headed, fields_of, read_instruction}
 use Rattle.packet.specs.Fragments.{field_of, sound, fragment_bytes, piece_in, read_fragment}
 use Rattle.packet.specs.Datagrams.{Parcel, top_bit, top_of, direction_of, same_direction, datagram_around, carried, read_datagram}
 use Rattle.packet.specs.Layouts.{Bytes, Takeable, InstructionStands, FragmentStands, DatagramStands}
@@ -42,7 +42,7 @@ pub instruction_length : (u : Update) → length (instruction_bytes u) ≡ 17 + 
 unfolding instruction_bytes
 instruction_length u = omega arith
 
-instruction_headed : (u : Update) → (leb 17 (length (instruction_bytes u)) && eqb (get_or (instruction_bytes u) 0 0) 2) ≡ true
+instruction_headed : (u : Update) → headed (instruction_bytes u) ≡ true
 unfolding instruction_bytes
 instruction_headed u = and_from _ _ (le-leb 17 (length (instruction_bytes u)) (omega arith)) refl
 

@@ -1,6 +1,7 @@
 -- Numbers as bytes: read back, and written again.
-use Rattle.std.proofs.Common.{◌≡◌, ℕ, ◌+◌, ◌*◌, ◌/◌, ◌%◌, ◌<◌, ◌≤◌, List, [], ◌∷◌, ◌++◌, length, get_or, drop, sym, ap, ◌∙◌, arith}
-use Rattle.std.proofs.lemmas.List.{drop_more}
+use Rattle.std.proofs.Common.{◌≡◌, ℕ, ◌+◌, ◌*◌, ◌/◌, ◌%◌, ◌<◌, ◌≤◌, List, [], ◌∷◌, ◌++◌, length, get_or, take, drop, sym, refl, ap, ◌∙◌, arith}
+use Rattle.std.proofs.lemmas.List.{drop_more, get_or-take, get_or-drop}
+use Rattle.std.specs.Int.{w16, w32, w64, from_be_bytes, to_be_bytes}
 use Rattle.state.specs.BigEndian.{two, four, of_two, of_four}
 use Rattle.packet.specs.Eight.{eight, of_eight}
 use Rattle.packet.specs.Layouts.{Bytes}
@@ -13,6 +14,43 @@ four_back n = omega arith
 
 pub eight_back : (n : ℕ) (rest : List ℕ) → of_eight (eight n ++ rest) 0 ≡ n
 eight_back n rest = ap (λ m. m * 4294967296 + of_four (four (n % 4294967296)) 0) (four_back (n / 4294967296)) ∙ ap (λ m. n / 4294967296 * 4294967296 + m) (four_back (n % 4294967296)) ∙ omega arith
+
+-- the numbers that a program reads from the first bytes of r, which lies from place i on
+byte_read : (bs r ys : List ℕ) (n i : ℕ) → r ≡ drop i bs → ys ≡ take n r → (k j : ℕ) → k < n → j ≡ i + k → get_or ys k 0 ≡ get_or bs j 0
+byte_read bs r ys n i from e k j h at = ap (λ z. get_or z k 0) (e ∙ ap (take n) from) ∙ get_or-take n (drop i bs) k 0 h ∙ get_or-drop i bs k 0 ∙ ap (λ m. get_or bs m 0) (sym at)
+
+pub two_read : (bs r ys : List ℕ) (i : ℕ) → r ≡ drop i bs → ys ≡ take 2 r → from_be_bytes w16 ys ≡ of_two bs i
+two_read bs r ys i from e =
+    let at = byte_read bs r ys 2 i from e in
+    omega (arith, at 0 i (omega arith) (omega arith), at 1 (i + 1) (omega arith) refl)
+
+pub four_read : (bs r ys : List ℕ) (i : ℕ) → r ≡ drop i bs → ys ≡ take 4 r → from_be_bytes w32 ys ≡ of_four bs i
+four_read bs r ys i from e =
+    let at = byte_read bs r ys 4 i from e in
+    omega (arith, at 0 i (omega arith) (omega arith), at 1 (i + 1) (omega arith) refl, at 2 (i + 2) (omega arith) refl, at 3 (i + 3) (omega arith) refl)
+
+pub eight_read : (bs ys : List ℕ) → ys ≡ take 8 bs → from_be_bytes w64 ys ≡ of_eight bs 0
+eight_read bs ys e =
+    let at = byte_read bs bs ys 8 0 refl e in
+    omega (arith, at 0 0 (omega arith) refl, at 1 1 (omega arith) refl, at 2 2 (omega arith) refl, at 3 3 (omega arith) refl, at 4 4 (omega arith) refl, at 5 5 (omega arith) refl, at 6 6 (omega arith) refl, at 7 7 (omega arith) refl)
+
+-- the bytes that a program makes of a number
+pub two_is : (n : ℕ) → n < 65536 → to_be_bytes w16 n ≡ two n
+two_is n h = let a : n / 256 % 256 ≡ n / 256 = omega arith in λ i. a i ∷ n % 256 ∷ []
+
+pub four_is : (n : ℕ) → n < 4294967296 → to_be_bytes w32 n ≡ four n
+four_is n h = let a : n / 16777216 % 256 ≡ n / 16777216 = omega arith in λ i. a i ∷ n / 65536 % 256 ∷ n / 256 % 256 ∷ n % 256 ∷ []
+
+pub eight_is : (n : ℕ) → n < 18446744073709551616 → to_be_bytes w64 n ≡ eight n
+eight_is n h =
+    let a : n / 72057594037927936 % 256 ≡ n / 4294967296 / 16777216 = omega arith in
+    let b : n / 281474976710656 % 256 ≡ n / 4294967296 / 65536 % 256 = omega arith in
+    let c : n / 1099511627776 % 256 ≡ n / 4294967296 / 256 % 256 = omega arith in
+    let e : n / 16777216 % 256 ≡ n % 4294967296 / 16777216 = omega arith in
+    let f : n / 65536 % 256 ≡ n % 4294967296 / 65536 % 256 = omega arith in
+    let g : n / 256 % 256 ≡ n % 4294967296 / 256 % 256 = omega arith in
+    let j : n % 256 ≡ n % 4294967296 % 256 = omega arith in
+    λ i. a i ∷ b i ∷ c i ∷ n / 4294967296 % 256 ∷ e i ∷ f i ∷ g i ∷ j i ∷ []
 
 two_of : (a b : ℕ) → b < 256 → two (a * 256 + b) ≡ a ∷ b ∷ []
 two_of a b hb =

@@ -1,30 +1,16 @@
 -- The pieces of a sending and its datagrams, one after the other.
-use Rattle.std.proofs.Common.{◌≡◌, ℕ, zero, suc, ◌+◌, ◌-◌, ◌*◌, ◌<◌, ◌≤◌, min, false, List, [], ◌∷◌, ◌++◌, map, length, get_or, take, drop, Ok, sym, refl, ap, ◌∙◌, subst, ⊎_elim, arith, take-add}
+use Rattle.std.proofs.Common.{◌≡◌, ℕ, zero, suc, ◌+◌, ◌*◌, ◌<◌, ◌≤◌, false, List, [], ◌∷◌, ◌++◌, map, length, get_or, take, drop, Ok, sym, refl, ap, ◌∙◌, subst, arith, take-add}
 use Rattle.std.specs.List.{range_with_len, flat_map}
 use Rattle.std.proofs.lemmas.List.FromFn.{map-range_with_len_more, length-map-range_with_len, get_or-map-range_with_len}
-use Rattle.std.proofs.lemmas.List.{append-nil, flat_map_more, take_all, take_at, drop-drop, drop_at, length-take, length-drop, length-append}
-use Rattle.std.proofs.lemmas.Bool.{cases_lt}
+use Rattle.std.proofs.lemmas.List.{flat_map_more, take_all, drop-drop, length-take}
 use Rattle.packet.specs.declared.datagram.Direction.{Direction}
 use Rattle.packet.specs.Pieces.{piece, piece_count}
 use Rattle.packet.specs.Fragments.{fragment_bytes}
 use Rattle.packet.specs.Datagrams.{Parcel, same_direction, datagram_around, datagram_bytes, read_datagram}
-use Rattle.packet.specs.Sendings.{parcel, datagrams_of, sending_bytes}
+use Rattle.packet.specs.Sendings.{parcel, datagrams_of}
 use Rattle.packet.specs.Layouts.{SendingStands}
 use Rattle.packet.proofs.Sound.{sound_within, piece_sound}
 use Rattle.packet.proofs.Layouts.{datagram_back}
-use Rattle.packet.proofs.Writes.{Front, front_more, rest_is}
-use borrow.Rule.Slice.PartMut.{put_mid}
-
--- the bytes from 256 * k on up to the smaller of the length and 256 * (k + 1)
-pub piece_part : (bs : List ℕ) (k end : ℕ) → end ≡ min (length bs) (256 * (k + 1)) → take (end - 256 * k) (drop (256 * k) bs) ≡ take 256 (drop (256 * k) bs)
-piece_part bs k end e =
-    ⊎_elim
-    (λ (h : length bs < 256 * (k + 1)).
-    let a : length (drop (256 * k) bs) ≤ end - 256 * k = simp length-drop (omega arith) in
-    let b : length (drop (256 * k) bs) ≤ 256 = simp length-drop (omega arith) in
-    take_all (end - 256 * k) (drop (256 * k) bs) a ∙ sym (take_all 256 (drop (256 * k) bs) b))
-    (λ (h : 256 * (k + 1) ≤ length bs). let a : end - 256 * k ≡ 256 = omega arith in ap (λ n. take n (drop (256 * k) bs)) a)
-    (cases_lt (length bs) (256 * (k + 1)))
 
 -- a datagram has 22 bytes before its contents
 pub datagram_length : (g : Parcel) → length (datagram_bytes g) ≡ 22 + length g.piece.contents
@@ -46,16 +32,6 @@ module _ (d : Direction) (first s : ℕ) (bs : List ℕ) where
 
   pub datagram_short : (k : ℕ) → length (datagram_bytes (parcel d first s bs k)) ≤ 278
   datagram_short k = omega (arith, datagram_length (parcel d first s bs k), piece_short s bs k)
-
-  -- one datagram more, written behind those before it
-  pub step : (o out w : List ℕ) (at k n : ℕ) (g : Parcel) → g ≡ parcel d first s bs k → at ≡ length (so_far k) → at ≤ 278 * k → Front o (so_far k) out → n ≡ length (datagram_bytes g) → w ≡ datagram_bytes g ++ drop (length (datagram_bytes g)) (take (length out - at) (drop at out)) → (at + n ≡ length (so_far (k + 1))) × (at + n ≤ 278 * (k + 1)) × Front o (so_far (k + 1)) (put_mid at (length out - at) out w)
-  step o out w at k n g same here below before long e =
-      let q : List ℕ = datagram_bytes (parcel d first s bs k) in
-      let is : datagram_bytes g ≡ q = ap datagram_bytes same in
-      let n-is : n ≡ length q = long ∙ ap length is in
-      let w-is : w ≡ q ++ drop (length q) (take (length out - at) (drop at out)) = e ∙ ap (λ z. z ++ drop (length z) (take (length out - at) (drop at out))) is in
-      let all : at + n ≡ length (so_far (k + 1)) = ap (λ m. m + n) here ∙ ap (λ m. length (so_far k) + m) n-is ∙ sym (length-append (so_far k) q) ∙ ap length (so_far_more k) in
-      (all, omega (arith, datagram_short k), front_more o (so_far k) q out (put_mid at (length out - at) out w) at here before (rest_is at out w q w-is) ∙ ap (λ p. p ++ drop (length p) o) (so_far_more k))
 
   -- the datagram k of the list
   pub datagram_nth : (k : ℕ) → k < piece_count bs → get_or (datagrams_of d first s bs) k [] ≡ datagram_bytes (parcel d first s bs k)
@@ -96,59 +72,3 @@ sending_stands d sends first s bs other short =
       λ k h. ap (read_datagram sends) (nth k h) ∙ datagram_read d first s bs sends k other short h,
       pieces_join s bs,
     )
-
-module _ (d : Direction) (first s : ℕ) (bs : List ℕ) where
-  -- the datagrams a, .., a + n - 1, back to back
-  abbrev stretch : ℕ → ℕ → List ℕ
-  stretch a n = flat_map (λ x. x) (map (λ i. datagram_bytes (parcel d first s bs i)) (range_with_len a n))
-
-  stretch_length : (a n : ℕ) → length (stretch a n) ≡ 22 * n + length (flat_map (λ k. (piece s bs k).contents) (range_with_len a n))
-  stretch_length a zero = refl
-  stretch_length a (suc n) =
-      let q : List ℕ = datagram_bytes (parcel d first s bs a) in
-      let c : List ℕ = (piece s bs a).contents in
-      length-append q (stretch (a + 1) n)
-      ∙ ap (λ m. m + length (stretch (a + 1) n)) (datagram_length (parcel d first s bs a))
-      ∙ ap (λ m. 22 + length c + m) (stretch_length (a + 1) n)
-      ∙ omega arith
-      ∙ ap (λ m. 22 * suc n + m) (sym (length-append c (flat_map (λ k. (piece s bs k).contents) (range_with_len (a + 1) n))))
-
-  -- a sending's length: 22 bytes more a piece
-  pub sending_length : length (sending_bytes d first s bs) ≡ 22 * piece_count bs + length bs
-  unfolding datagrams_of
-  sending_length = stretch_length 0 (piece_count bs) ∙ ap (λ z. 22 * piece_count bs + length z) (pieces_join s bs)
-
-  -- every datagram but the last has 278 bytes
-  pub earlier_length : (k : ℕ) → k + 1 < piece_count bs → length (datagram_bytes (parcel d first s bs k)) ≡ 278
-  earlier_length k h =
-      let long : length (take 256 (drop (256 * k) bs)) ≡ min 256 (length bs - 256 * k) = length-take 256 (drop (256 * k) bs) ∙ ap (min 256) (length-drop (256 * k) bs) in
-      omega (arith, datagram_length (parcel d first s bs k))
-
-  skipped : (a k n : ℕ) → ((i : ℕ) → i < k → length (datagram_bytes (parcel d first s bs (a + i))) ≡ 278) → drop (278 * k) (stretch a (k + n)) ≡ stretch (a + k) n
-  skipped a zero n full = ap (stretch a) (omega arith) ∙ ap (λ m. stretch m n) (omega arith)
-  skipped a (suc k) n full =
-      let q : List ℕ = datagram_bytes (parcel d first s bs a) in
-      let here : length q ≡ 278 = ap (λ m. length (datagram_bytes (parcel d first s bs m))) (omega arith) ∙ full 0 (omega arith) in
-      let more : suc k + n ≡ suc (k + n) = omega arith in
-      let on : (i : ℕ) → i < k → length (datagram_bytes (parcel d first s bs (a + 1 + i))) ≡ 278 = λ i h. ap (λ m. length (datagram_bytes (parcel d first s bs m))) (omega arith) ∙ full (suc i) (omega arith) in
-      ap (λ m. drop (278 * suc k) (stretch a m)) more
-      ∙ ap (λ m. drop m (stretch a (suc (k + n)))) (omega arith)
-      ∙ sym (drop-drop (278 * k) 278 (stretch a (suc (k + n))))
-      ∙ ap (drop (278 * k)) (drop_at q (stretch (a + 1) (k + n)) 278 here)
-      ∙ skipped (a + 1) k n on
-      ∙ ap (λ m. stretch m n) (omega arith)
-
-  first_of : (a n : ℕ) → (0 < n → length (datagram_bytes (parcel d first s bs a)) ≡ 278) → take 278 (stretch a (suc n)) ≡ datagram_bytes (parcel d first s bs a)
-  first_of a zero full = ap (take 278) (append-nil (datagram_bytes (parcel d first s bs a))) ∙ take_all 278 (datagram_bytes (parcel d first s bs a)) (datagram_short d first s bs a)
-  first_of a (suc n) full = take_at (datagram_bytes (parcel d first s bs a)) (stretch (a + 1) (suc n)) 278 (full (omega arith))
-
-  -- the datagram k of a sending begins at byte 278 * k
-  pub datagram_at_lem : (k : ℕ) → k < piece_count bs → take 278 (drop (278 * k) (sending_bytes d first s bs)) ≡ datagram_bytes (parcel d first s bs k)
-  unfolding datagrams_of
-  datagram_at_lem k h =
-      let n : ℕ = piece_count bs - k - 1 in
-      let all : piece_count bs ≡ k + suc n = omega arith in
-      let full : (i : ℕ) → i < k → length (datagram_bytes (parcel d first s bs (0 + i))) ≡ 278 = λ i l. earlier_length (0 + i) (omega arith) in
-      ap (λ m. take 278 (drop (278 * k) (stretch 0 m))) all
-      ∙ ap (take 278) (skipped 0 k (suc n) full ∙ ap (λ m. stretch m (suc n)) (omega arith))
-      ∙ first_of k n (λ pos. earlier_length k (omega arith))

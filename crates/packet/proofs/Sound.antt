@@ -1,8 +1,7 @@
 -- The rules of a piece.
-use Rattle.std.proofs.Common.{◌≡◌, ℕ, ◌+◌, ◌-◌, ◌*◌, ◌/◌, ◌<◌, ◌≤◌, min, Bool, true, false, cond, ◌&&◌, eqb, ltb, leb, List, length, take, drop, ap, ◌∙◌, ⊎_elim, arith}
+use Rattle.std.proofs.Common.{◌≡◌, ℕ, ◌+◌, ◌-◌, ◌*◌, ◌/◌, ◌<◌, ◌≤◌, min, Bool, true, false, cond, ◌&&◌, eqb, ltb, leb, List, length, take, drop, ap, ◌∙◌, arith}
 use Rattle.std.proofs.lemmas.List.{length-take, length-drop}
-use Rattle.std.proofs.lemmas.Bool.{and_from, le-leb, lt-ltb, eq-eqb}
-use Rattle.std.proofs.lemmas.Bool.Decides.{nat_tests, eqb_tells}
+use Rattle.std.proofs.lemmas.Bool.Decides.{nat_tests}
 use Rattle.packet.specs.Pieces.{Piece, piece_count, piece}
 use Rattle.packet.specs.Fragments.{sound}
 
@@ -34,14 +33,7 @@ pub sound_within : (p : Piece) → sound p ≡ true → (p.number ≤ 7) × (1 �
 sound_within p h = some_fits p.last p.number (length p.contents) h
 
 cut_fits : (l k : ℕ) → l ≤ 2048 → k < (l + 255) / 256 → fits (eqb (k + 1) ((l + 255) / 256)) k (min 256 (l - 256 * k)) ≡ true
-cut_fits l k short h =
-    let n = min 256 (l - 256 * k) in
-    ⊎_elim
-    (λ (e : (eqb (k + 1) ((l + 255) / 256) ≡ true) × (k + 1 ≡ (l + 255) / 256)).
-    ap (λ b. fits b k n) e.0 ∙ and_from (leb k 7) (leb 1 n && leb n 256) (le-leb k 7 (omega arith)) (and_from (leb 1 n) (leb n 256) (le-leb 1 n (omega arith)) (le-leb n 256 (omega arith))))
-    (λ (e : (eqb (k + 1) ((l + 255) / 256) ≡ false) × (k + 1 ≡ (l + 255) / 256 → ⊥)).
-    ap (λ b. fits b k n) e.0 ∙ and_from (ltb k 7) (eqb n 256) (lt-ltb k 7 (omega arith)) (eq-eqb n 256 (omega arith)))
-    (eqb_tells (k + 1) ((l + 255) / 256))
+cut_fits l k short h = grind (arith, nat_tests)
 
 -- the pieces of at most 2,048 bytes keep the rules
 pub piece_sound : (s : ℕ) (bs : List ℕ) (k : ℕ) → length bs ≤ 2048 → k < piece_count bs → sound (piece s bs k) ≡ true

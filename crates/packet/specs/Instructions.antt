@@ -31,10 +31,14 @@ instruction_bytes u = 2 ∷ (four u.old ++ (four u.new ++ (four u.ack ++ (four u
 unfoldable pub fields_of : List ℕ → Update
 fields_of bs = record { old = of_four bs 1; new = of_four bs 5; ack = of_four bs 9; throwaway = of_four bs 13; diff = drop 17 bs }
 
--- bytes read: long enough for a version and four numbers, of version 2, the numbers together
+-- whether bytes are long enough for a version and four numbers, and of version 2
+abbrev pub headed : List ℕ → Bool
+headed bs = nat_le 17 (length bs) && slice_index bs 0 == 2
+
+-- bytes read: headed so, the numbers together
 abbrev pub read_instruction : List ℕ → Result Update InstructionFault
 read_instruction bs =
-    cond (nat_le 17 (length bs) && slice_index bs 0 == 2)
+    cond (headed bs)
     (cond (together (fields_of bs)) (Ok (fields_of bs)) (Err NumbersApart))
     (Err NotAnInstruction)
 

@@ -6,3 +6,4 @@ pub mod Layouts
 pub mod Pieces
 pub mod Refusals
 pub mod Sendings
+pub mod Writes

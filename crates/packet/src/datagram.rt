@@ -1,8 +1,10 @@
 // A datagram: one fragment on its way toward the reader or the depot.
-ghost use Rattle.std.specs.Prelude.{◌≡◌, ◌+◌, ◌<◌, ◌≤◌, ◌++◌, length, drop, Ok, Err, MatchResult};
+ghost use Rattle.std.specs.Prelude.{◌≡◌, ◌+◌, ◌<◌, ◌≤◌, length, drop, Ok, Err, MatchResult};
 ghost use Rattle.packet.specs.Datagrams.{top_bit, top_of, direction_of, parcel_of, datagram_bytes, read_datagram};
+ghost use Rattle.packet.specs.Eight.{of_eight};
+ghost use Rattle.packet.specs.Writes.{rest, Adds};
 
-use crate::bytes::{eight_at, put, put_eight};
+use crate::bytes::Writer;
 use crate::fragment::Fragment;
 use crate::refusal::{DatagramFault, ReadFault};
 
@@ -26,6 +28,7 @@ const UNREAD: [u8; 4] = [0xFF; 4];
 
 impl Direction {
     // The direction that the first eight bytes carry.
+    // Stays: a `From<u64>` would offer to everyone, for every number, what is meant of a datagram's first eight bytes alone.
     fn of(word: u64) -> Direction
         ensures { result ≡ direction_of word }
     {
@@ -48,7 +51,7 @@ impl Direction {
 }
 
 // A fragment with the direction in which it goes and the datagram's number.
-#[derive(Clone, Copy)]
+#[derive(Clone, Copy, PartialEq, Eq, Debug)]
 pub struct Datagram<'a> {
     pub direction: Direction,
     pub number: u64,
@@ -60,40 +63,38 @@ impl<'a> Datagram<'a> {
     pub fn read(bytes: &'a [u8], sends: Direction) -> Result<Datagram<'a>, ReadFault>
         ensures { MatchResult result (λ d. read_datagram sends bytes.now ≡ Ok (parcel_of d)) (λ f. read_datagram sends bytes.now ≡ Err f) }
     {
-        if bytes.len() < SHORTEST || bytes.len() > LONGEST {
-            return Err(ReadFault::Datagram(DatagramFault::WrongLength));
+        if !(SHORTEST..=LONGEST).contains(&bytes.len()) {
+            return Err(DatagramFault::WrongLength.into());
         }
-        let word = eight_at(bytes, 0);
+        let (word, fragment) = Datagram::parts(bytes);
         let direction = Direction::of(word);
         if direction == sends {
-            return Err(ReadFault::Datagram(DatagramFault::OwnDirection));
+            return Err(DatagramFault::OwnDirection.into());
         }
-        match Fragment::read(Datagram::fragment_part(bytes)) {
-            Ok(fragment) => Ok(Datagram {
-                direction,
-                number: word % TOP,
-                fragment,
-            }),
-            Err(fault) => Err(ReadFault::Fragment(fault)),
-        }
+        Ok(Datagram {
+            direction,
+            number: word % TOP,
+            fragment: Fragment::read(fragment)?,
+        })
     }
 
-    // What lies behind the number and the unread bytes.
-    fn fragment_part(bytes: &'a [u8]) -> &'a [u8]
+    // The number that the first eight bytes write, and what lies behind the unread bytes.
+    fn parts(bytes: &'a [u8]) -> (u64, &'a [u8])
         requires { 12 ≤ length bytes.now }
-        ensures { result.now ≡ drop 12 bytes.now }
+        ensures { (result.0 ≡ of_eight bytes.now 0) × (result.1.now ≡ drop 12 bytes.now) }
     {
-        &bytes[8 + UNREAD.len()..]
+        let (word, rest) = bytes.split_first_chunk::<8>().unwrap();
+        (u64::from_be_bytes(*word), &rest[UNREAD.len()..])
     }
 
-    // Writes the datagram at the front of `out`, and gives its length.
-    pub(crate) fn write(&self, out: &mut [u8]) -> usize
-        requires { (self.now.number < top_bit) × (22 + length self.now.fragment.contents.now ≤ length out.old) }
-        ensures length { result ≡ length (datagram_bytes (parcel_of self.now)) }
-        ensures bytes { out.new ≡ datagram_bytes (parcel_of self.now) ++ drop (length (datagram_bytes (parcel_of self.now))) out.old }
+    // Writes the datagram.
+    pub(crate) fn write(&self, writer: &mut Writer<'_>)
+        requires { (self.now.number < top_bit) × (22 + length self.now.fragment.contents.now ≤ length (rest writer.old)) }
+        ensures { Adds writer.old (datagram_bytes (parcel_of self.now)) writer.new }
     {
-        let at = put_eight(out, 0, self.direction.top() + self.number);
-        let at = put(out, at, &UNREAD);
-        at + self.fragment.write(&mut out[at..])
+        let word = self.direction.top() + self.number;
+        writer.put(&word.to_be_bytes());
+        writer.put(&UNREAD);
+        self.fragment.write(writer);
     }
 }

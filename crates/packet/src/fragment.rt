@@ -1,13 +1,14 @@
 // A fragment: a piece of one sending's instruction.
-ghost use Rattle.std.specs.Prelude.{◌≡◌, ◌+◌, ◌≤◌, false, ◌++◌, length, drop, Ok, Err, MatchOption, MatchResult};
+ghost use Rattle.std.specs.Prelude.{◌≡◌, ◌+◌, ◌≤◌, false, length, Ok, Err, MatchOption, MatchResult};
 ghost use Rattle.packet.specs.Pieces.{piece_of};
 ghost use Rattle.packet.specs.Fragments.{field_of, fragment_bytes, piece_in, sound, read_fragment};
+ghost use Rattle.packet.specs.Writes.{rest, Adds};
 
-use crate::bytes::{eight_at, put, put_eight, put_two, two_at};
+use crate::bytes::Writer;
 use crate::refusal::FragmentFault;
 
 // The piece `number` of the instruction of a sending; `last` marks the one at its end.
-#[derive(Clone, Copy)]
+#[derive(Clone, Copy, PartialEq, Eq, Debug)]
 pub struct Fragment<'a> {
     pub sending: u64,
     pub number: u8,
@@ -24,50 +25,48 @@ impl<'a> Fragment<'a> {
         ensures { MatchResult result (λ f. read_fragment bytes.now ≡ Ok (piece_of f)) (λ e. read_fragment bytes.now ≡ Err e) }
     {
         match Fragment::fields(bytes) {
-            Some(fragment) if fragment.sound() => Ok(fragment),
+            Some(fragment) if fragment.is_sound() => Ok(fragment),
             _ => Err(FragmentFault::Malformed),
         }
     }
 
-    // The fields and the contents, unless there are none or the number is too large.
+    // The fields and the contents, unless bytes are missing or the number is no `u8`.
     fn fields(bytes: &'a [u8]) -> Option<Fragment<'a>>
         ensures { MatchOption result (sound (piece_in bytes.now) ≡ false) (λ f. piece_of f ≡ piece_in bytes.now) }
     {
-        if bytes.len() <= 10 {
+        let (sending, rest) = bytes.split_first_chunk::<8>()?;
+        let (field, contents) = rest.split_first_chunk::<2>()?;
+        let field = u16::from_be_bytes(*field);
+        let Ok(number) = u8::try_from(field % LAST) else {
             return None;
-        }
-        let field = two_at(bytes, 8);
-        if field % LAST > 7 {
-            return None;
-        }
+        };
         Some(Fragment {
-            sending: eight_at(bytes, 0),
-            number: (field % LAST) as u8,
+            sending: u64::from_be_bytes(*sending),
+            number,
             last: field >= LAST,
-            contents: &bytes[10..],
+            contents,
         })
     }
 
     // Whether it can be the last piece of an instruction, or if it isn't marked so, an earlier one.
-    fn sound(&self) -> bool
+    pub fn is_sound(&self) -> bool
         ensures { result ≡ sound (piece_of self.now) }
     {
         if self.last {
-            self.number <= 7 && self.contents.len() >= 1 && self.contents.len() <= 256
+            self.number <= 7 && (1..=256).contains(&self.contents.len())
         } else {
             self.number < 7 && self.contents.len() == 256
         }
     }
 
-    // Writes the fragment at the front of `out`, and gives its length.
-    pub(crate) fn write(&self, out: &mut [u8]) -> usize
-        requires { 10 + length self.now.contents.now ≤ length out.old }
-        ensures length { result ≡ length (fragment_bytes (piece_of self.now)) }
-        ensures bytes { out.new ≡ fragment_bytes (piece_of self.now) ++ drop (length (fragment_bytes (piece_of self.now))) out.old }
+    // Writes the fragment.
+    pub(crate) fn write(&self, writer: &mut Writer<'_>)
+        requires { 10 + length self.now.contents.now ≤ length (rest writer.old) }
+        ensures { Adds writer.old (fragment_bytes (piece_of self.now)) writer.new }
     {
-        let at = put_eight(out, 0, self.sending);
-        let at = put_two(out, at, self.field());
-        put(out, at, self.contents)
+        writer.put(&self.sending.to_be_bytes());
+        writer.put(&self.field().to_be_bytes());
+        writer.put(self.contents);
     }
 
     // The 16-bit field.

@@ -1,12 +1,13 @@
 // An instruction: what brings the other end from one state to a later one.
-ghost use Rattle.std.specs.Prelude.{◌≡◌, ◌+◌, ◌≤◌, ◌++◌, length, take, drop, IfOk, Ok, Err, MatchResult};
-ghost use Rattle.packet.specs.Instructions.{update_of, together, instruction_bytes, fields_of, read_instruction, write_answer, written_instruction};
+ghost use Rattle.std.specs.Prelude.{◌≡◌, ◌+◌, ◌≤◌, true, false, length, take, IfOk, Ok, Err, MatchOption, MatchResult};
+ghost use Rattle.packet.specs.Instructions.{update_of, together, instruction_bytes, headed, fields_of, read_instruction, write_answer, written_instruction};
+ghost use Rattle.packet.specs.Writes.{rest, Adds};
 
-use crate::bytes::{four_at, put, put_four};
+use crate::bytes::Writer;
 use crate::refusal::{InstructionFault, SendRefusal};
 
 // The diff from the state `old` to the state `new`, the number acknowledged, and the number below which no state is needed.
-#[derive(Clone, Copy)]
+#[derive(Clone, Copy, PartialEq, Eq, Debug)]
 pub struct Instruction<'a> {
     pub old: u32,
     pub new: u32,
@@ -18,9 +19,6 @@ pub struct Instruction<'a> {
 // The first byte of an instruction.
 const VERSION: u8 = 2;
 
-// The length of the version and the four numbers.
-const HEAD: usize = 17;
-
 // The longest diff that is sent.
 const LONGEST_DIFF: usize = 2031;
 
@@ -29,10 +27,7 @@ impl<'a> Instruction<'a> {
     pub fn read(bytes: &'a [u8]) -> Result<Instruction<'a>, InstructionFault>
         ensures { MatchResult result (λ i. read_instruction bytes.now ≡ Ok (update_of i)) (λ f. read_instruction bytes.now ≡ Err f) }
     {
-        if bytes.len() < HEAD || bytes[0] != VERSION {
-            return Err(InstructionFault::NotAnInstruction);
-        }
-        let instruction = Instruction::fields(bytes);
+        let instruction = Instruction::fields(bytes).ok_or(InstructionFault::NotAnInstruction)?;
         if !instruction.together() {
             return Err(InstructionFault::NumbersApart);
         }
@@ -40,17 +35,24 @@ impl<'a> Instruction<'a> {
     }
 
     // The four numbers and the diff, behind the version.
-    fn fields(bytes: &'a [u8]) -> Instruction<'a>
-        requires { 17 ≤ length bytes.now }
-        ensures { update_of result ≡ fields_of bytes.now }
+    fn fields(bytes: &'a [u8]) -> Option<Instruction<'a>>
+        ensures { MatchOption result (headed bytes.now ≡ false) (λ i. (headed bytes.now ≡ true) × (update_of i ≡ fields_of bytes.now)) }
     {
-        Instruction {
-            old: four_at(bytes, 1),
-            new: four_at(bytes, 5),
-            ack: four_at(bytes, 9),
-            throwaway: four_at(bytes, 13),
-            diff: &bytes[HEAD..],
+        let (version, rest) = bytes.split_first()?;
+        let (old, rest) = rest.split_first_chunk::<4>()?;
+        let (new, rest) = rest.split_first_chunk::<4>()?;
+        let (ack, rest) = rest.split_first_chunk::<4>()?;
+        let (throwaway, diff) = rest.split_first_chunk::<4>()?;
+        if *version != VERSION {
+            return None;
         }
+        Some(Instruction {
+            old: u32::from_be_bytes(*old),
+            new: u32::from_be_bytes(*new),
+            ack: u32::from_be_bytes(*ack),
+            throwaway: u32::from_be_bytes(*throwaway),
+            diff,
+        })
     }
 
     // Whether the numbers stand in order, the last at most 15 above the first.
@@ -69,21 +71,21 @@ impl<'a> Instruction<'a> {
         if self.diff.len() > LONGEST_DIFF {
             return Err(SendRefusal::LongDiff);
         }
-        Ok(self.lay(out))
+        let mut writer = Writer::new(out);
+        self.lay(&mut writer);
+        Ok(writer.written())
     }
 
-    // Writes one whose diff has room.
-    fn lay(&self, out: &mut [u8; 2048]) -> usize
-        requires { length self.now.diff.now ≤ 2031 }
-        ensures length { result ≡ 17 + length (update_of self.entry.now).diff }
-        ensures bytes { out.new ≡ instruction_bytes (update_of self.entry.now) ++ drop (17 + length (update_of self.entry.now).diff) out.old }
-        ensures front { take result out.new ≡ instruction_bytes (update_of self.entry.now) }
+    // Writes the version, the numbers and the diff.
+    fn lay(&self, writer: &mut Writer<'_>)
+        requires { 17 + length self.now.diff.now ≤ length (rest writer.old) }
+        ensures { Adds writer.old (instruction_bytes (update_of self.entry.now)) writer.new }
     {
-        let at = put(out, 0, &[VERSION]);
-        let at = put_four(out, at, self.old);
-        let at = put_four(out, at, self.new);
-        let at = put_four(out, at, self.ack);
-        let at = put_four(out, at, self.throwaway);
-        put(out, at, self.diff)
+        writer.put(&[VERSION]);
+        writer.put(&self.old.to_be_bytes());
+        writer.put(&self.new.to_be_bytes());
+        writer.put(&self.ack.to_be_bytes());
+        writer.put(&self.throwaway.to_be_bytes());
+        writer.put(self.diff);
     }
 }

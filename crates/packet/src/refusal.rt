@@ -1,12 +1,15 @@
 // Why bytes are not read and why an instruction is not sent, by stage and in the order of the checks.
-ghost use Rattle.std.specs.Prelude.{◌≡◌};
-ghost use Rattle.packet.specs.Refusals.{send_refusal_of, datagram_fault_of, fragment_fault_of, read_fault_of, instruction_fault_of};
+ghost use Rattle.std.specs.Prelude.{◌≡◌, Some};
+ghost use Rattle.packet.specs.declared.refusal.ReadFault.TheVariants.{Datagram, Fragment};
+ghost use Rattle.packet.specs.Refusals.{send_refusal_of, datagram_fault_of, fragment_fault_of, read_fault_of, instruction_fault_of, refusal_text};
+
+use std::fmt;
 
 // Why an instruction is not sent.
 #[derive(Clone, Copy, PartialEq, Eq, Debug)]
 pub enum SendRefusal {
-    ShortBuffer,
-    LongDiff,
+    ShortBuffer = 5,
+    LongDiff = 9,
 }
 
 impl SendRefusal {
@@ -14,18 +17,24 @@ impl SendRefusal {
     pub fn number(self) -> u8
         ensures { result ≡ send_refusal_of self }
     {
-        match self {
-            SendRefusal::ShortBuffer => 5,
-            SendRefusal::LongDiff => 9,
-        }
+        self as u8
+    }
+}
+
+// Stays: four impls say the same of four types, since an impl of a foreign trait for every type under a trait of ours would overlap others.
+impl fmt::Display for SendRefusal {
+    ghost output = { λ r. Some (refusal_text (send_refusal_of r)) };
+
+    fn fmt<W: fmt::Write>(&self, f: &mut fmt::Formatter<W>) -> fmt::Result {
+        write!(f, "no{}", SendRefusal::number(*self))
     }
 }
 
 // Why bytes are no datagram for this end.
 #[derive(Clone, Copy, PartialEq, Eq, Debug)]
 pub enum DatagramFault {
-    WrongLength,
-    OwnDirection,
+    WrongLength = 10,
+    OwnDirection = 11,
 }
 
 impl DatagramFault {
@@ -33,18 +42,15 @@ impl DatagramFault {
     pub fn number(self) -> u8
         ensures { result ≡ datagram_fault_of self }
     {
-        match self {
-            DatagramFault::WrongLength => 10,
-            DatagramFault::OwnDirection => 11,
-        }
+        self as u8
     }
 }
 
 // Why a fragment is not taken: it is none, or it contradicts one of its sending that is held.
 #[derive(Clone, Copy, PartialEq, Eq, Debug)]
 pub enum FragmentFault {
-    Malformed,
-    Contradiction,
+    Malformed = 12,
+    Contradiction = 13,
 }
 
 impl FragmentFault {
@@ -52,10 +58,15 @@ impl FragmentFault {
     pub fn number(self) -> u8
         ensures { result ≡ fragment_fault_of self }
     {
-        match self {
-            FragmentFault::Malformed => 12,
-            FragmentFault::Contradiction => 13,
-        }
+        self as u8
+    }
+}
+
+impl fmt::Display for FragmentFault {
+    ghost output = { λ f. Some (refusal_text (fragment_fault_of f)) };
+
+    fn fmt<W: fmt::Write>(&self, f: &mut fmt::Formatter<W>) -> fmt::Result {
+        write!(f, "no{}", FragmentFault::number(*self))
     }
 }
 
@@ -78,12 +89,36 @@ impl ReadFault {
     }
 }
 
+impl fmt::Display for ReadFault {
+    ghost output = { λ f. Some (refusal_text (read_fault_of f)) };
+
+    fn fmt<W: fmt::Write>(&self, f: &mut fmt::Formatter<W>) -> fmt::Result {
+        write!(f, "no{}", ReadFault::number(*self))
+    }
+}
+
+impl From<DatagramFault> for ReadFault {
+    ghost from_gives = { λ f r. r ≡ Datagram f };
+
+    fn from(fault: DatagramFault) -> ReadFault {
+        ReadFault::Datagram(fault)
+    }
+}
+
+impl From<FragmentFault> for ReadFault {
+    ghost from_gives = { λ f r. r ≡ Fragment f };
+
+    fn from(fault: FragmentFault) -> ReadFault {
+        ReadFault::Fragment(fault)
+    }
+}
+
 // Why an instruction is not taken: it is none, its numbers lie apart, or it acknowledges what was never sent.
 #[derive(Clone, Copy, PartialEq, Eq, Debug)]
 pub enum InstructionFault {
-    NotAnInstruction,
-    NumbersApart,
-    AckAhead,
+    NotAnInstruction = 14,
+    NumbersApart = 15,
+    AckAhead = 16,
 }
 
 impl InstructionFault {
@@ -91,10 +126,14 @@ impl InstructionFault {
     pub fn number(self) -> u8
         ensures { result ≡ instruction_fault_of self }
     {
-        match self {
-            InstructionFault::NotAnInstruction => 14,
-            InstructionFault::NumbersApart => 15,
-            InstructionFault::AckAhead => 16,
-        }
+        self as u8
+    }
+}
+
+impl fmt::Display for InstructionFault {
+    ghost output = { λ f. Some (refusal_text (instruction_fault_of f)) };
+
+    fn fmt<W: fmt::Write>(&self, f: &mut fmt::Formatter<W>) -> fmt::Result {
+        write!(f, "no{}", InstructionFault::number(*self))
     }
 }

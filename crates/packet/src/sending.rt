@@ -1,16 +1,14 @@
 // A sending: an instruction cut into pieces, each in a datagram, all back to back.
-ghost use Rattle.std.specs.Prelude.{◌≡◌, ◌+◌, ◌<◌, ◌≤◌, ◌++◌, length, drop};
-ghost use Rattle.packet.specs.Instructions.{update_of};
-ghost use Rattle.packet.specs.Pieces.{piece_of, piece_count, piece};
-ghost use Rattle.packet.specs.Datagrams.{parcel_of};
-ghost use Rattle.packet.specs.Sendings.{parcel, sending_bytes, send_answer, sent_into};
+ghost use Rattle.std.specs.Prelude.{◌≡◌, ◌*◌, ◌<◌, ◌≤◌, length, take, drop};
 
+use crate::bytes::Writer;
 use crate::datagram::{Datagram, Direction, TOP};
 use crate::fragment::Fragment;
 use crate::instruction::Instruction;
 use crate::refusal::SendRefusal;
 
 // How many datagrams were written, and how many bytes they have together.
+// Stays: the buffer is lent and stays the caller's, who is told how much of it was written, by a rule of the project.
 #[derive(Clone, Copy, PartialEq, Eq, Debug)]
 pub struct Sent {
     pub count: usize,
@@ -24,6 +22,9 @@ const ROOM: usize = 2224;
 const PIECE: usize = 256;
 
 impl Instruction<'_> {
+    ghost use Rattle.packet.specs.Instructions.{update_of};
+    ghost use Rattle.packet.specs.Sendings.{send_answer, sent_into};
+
     // Writes the instruction's datagrams back to back at the front of `out`, numbered on from `first_datagram`.
     pub fn send(
         &self,
@@ -39,71 +40,70 @@ impl Instruction<'_> {
             return Err(SendRefusal::ShortBuffer);
         }
         let mut whole = [0; 2048];
-        let written = self.write(&mut whole)?;
-        let bytes = &whole[0..written];
-        let length = send_pieces(bytes, direction, first_datagram, sending, out);
+        let length = self.write(&mut whole)?;
+        let pieces = Pieces {
+            bytes: &whole[..length],
+            direction,
+            first_datagram,
+            sending,
+        };
+        let mut writer = Writer::new(out);
+        pieces.write(&mut writer);
         Ok(Sent {
-            count: piece_count(bytes),
-            length,
+            count: pieces.count(),
+            length: writer.written(),
         })
     }
 }
 
-// Cuts an instruction's bytes, writes the datagrams of the pieces, and gives their length.
-fn send_pieces(
-    bytes: &[u8],
+// An instruction's bytes, to be cut into the pieces of a sending.
+#[derive(Clone, Copy)]
+struct Pieces<'a> {
+    bytes: &'a [u8],
     direction: Direction,
     first_datagram: u64,
     sending: u64,
-    out: &mut [u8],
-) -> usize
-    requires { (length bytes.now ≤ 2048) × (2224 ≤ length out.old) }
-    ensures length { result ≡ length (sending_bytes direction first_datagram sending bytes.now) }
-    ensures bytes { out.new ≡ sending_bytes direction first_datagram sending bytes.now ++ drop (length (sending_bytes direction first_datagram sending bytes.now)) out.old }
-{
-    let mut at = 0;
-    for k in 0..piece_count(bytes) {
-        let datagram = datagram_of(bytes, direction, first_datagram, sending, k);
-        at += datagram.write(&mut out[at..]);
-    }
-    at
+    ghost short: { length bytes.now ≤ 2048 },
 }
 
-// The datagram `k` of a sending.
-fn datagram_of(
-    bytes: &[u8],
-    direction: Direction,
-    first_datagram: u64,
-    sending: u64,
-    k: usize,
-) -> Datagram<'_>
-    requires { (length bytes.now ≤ 2048) × (k < piece_count bytes.now) }
-    ensures { parcel_of result ≡ parcel direction first_datagram sending bytes.now k }
-{
-    Datagram {
-        direction,
-        number: (first_datagram % TOP + k as u64) % TOP,
-        fragment: piece_of(bytes, sending, k),
-    }
-}
+impl<'a> Pieces<'a> {
+    ghost use Rattle.packet.specs.Pieces.{piece_count};
+    ghost use Rattle.packet.specs.Datagrams.{parcel_of};
+    ghost use Rattle.packet.specs.Sendings.{parcel, sending_bytes};
+    ghost use Rattle.packet.specs.Writes.{rest, Adds};
 
-// The piece `k` of a sending.
-fn piece_of(bytes: &[u8], sending: u64, k: usize) -> Fragment<'_>
-    requires { (length bytes.now ≤ 2048) × (k < piece_count bytes.now) }
-    ensures { piece_of result ≡ piece sending bytes.now k }
-{
-    let end = bytes.len().min(PIECE * (k + 1));
-    Fragment {
-        sending,
-        number: k as u8,
-        last: k + 1 == piece_count(bytes),
-        contents: &bytes[PIECE * k..end],
+    // How many there are.
+    fn count(&self) -> usize
+        ensures { result ≡ piece_count self.now.bytes.now }
+    {
+        self.bytes.len().div_ceil(PIECE)
     }
-}
 
-// How many pieces an instruction's bytes are cut into.
-fn piece_count(bytes: &[u8]) -> usize
-    ensures { result ≡ piece_count bytes.now }
-{
-    bytes.len().div_ceil(PIECE)
+    // Writes the datagram of each.
+    fn write(&self, writer: &mut Writer<'_>)
+        requires { 2224 ≤ length (rest writer.old) }
+        ensures { Adds writer.old (sending_bytes self.now.direction self.now.first_datagram self.now.sending self.now.bytes.now) writer.new }
+    {
+        for (k, contents) in self.bytes.chunks(PIECE).enumerate() {
+            self.datagram(k, contents).write(writer);
+        }
+    }
+
+    // The datagram of the piece `k`, with its contents.
+    fn datagram(&self, k: usize, contents: &'a [u8]) -> Datagram<'a>
+        requires number { k < piece_count self.now.bytes.now }
+        requires contents { contents.now ≡ take 256 (drop (256 * k) self.now.bytes.now) }
+        ensures { parcel_of result ≡ parcel self.now.direction self.now.first_datagram self.now.sending self.now.bytes.now k }
+    {
+        Datagram {
+            direction: self.direction,
+            number: (self.first_datagram % TOP + k as u64) % TOP,
+            fragment: Fragment {
+                sending: self.sending,
+                number: k as u8,
+                last: k + 1 == self.count(),
+                contents,
+            },
+        }
+    }
 }

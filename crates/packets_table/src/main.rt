@@ -12,6 +12,7 @@ use std::io;
 fn row(rt: &impl Print, heap: Global, line: &str) -> io::Result<()> {
     let (kind, rest) = line.split_once(' ').unwrap_or((line, ""));
     print!(rt; "{kind}:")?;
+    // Stays: the word is what a row of the table says, and reading it is this match.
     match kind {
         "datagram" => layouts::datagram(rt, heap, rest),
         "instruction" => layouts::instruction(rt, heap, rest),
@@ -21,6 +22,7 @@ fn row(rt: &impl Print, heap: Global, line: &str) -> io::Result<()> {
     }
 }
 
+// Stays: each table is a program, and has a `main` of its own.
 fn main(rt: HostRuntime) -> io::Result<()> {
     for line in rt.lines(rt.alloc()) {
         row(&rt, rt.alloc(), line?.as_str())?;

@@ -15,6 +15,7 @@ struct Piece {
     fill: u8,
 }
 
+// Stays: the words are this table's own, and what they become is a `bool`.
 fn mark(word: &str) -> Option<bool> {
     match word {
         "last" => Some(true),
@@ -36,7 +37,7 @@ fn read_piece(word: &str) -> Option<Piece> {
 }
 
 // Prints the length of an instruction's bytes, and the checksum of each 256 of them.
-fn show_whole(rt: &impl Print, bytes: &[u8]) -> io::Result<()> {
+fn show_sums(rt: &impl Print, bytes: &[u8]) -> io::Result<()> {
     let length = bytes.len();
     print!(rt; " whole of {length} with sums")?;
     for part in bytes.chunks(256) {
@@ -46,7 +47,27 @@ fn show_whole(rt: &impl Print, bytes: &[u8]) -> io::Result<()> {
     print!(rt; ";")
 }
 
-// Offers a fragment, and prints the answer.
+// Offers a fragment, and prints the answer; `show` prints the bytes of an instruction that it makes whole.
+pub(crate) fn offer_to<F: FnOnce(&[u8]) -> io::Result<()>>(
+    rt: &impl Print,
+    assembler: &mut Assembler,
+    fragment: Fragment<'_>,
+    show: F,
+) -> io::Result<()>
+    requires { F.IsAlwaysCallable show }
+{
+    match assembler.offer(fragment) {
+        Ok(Offer::Part) => print!(rt; " part;"),
+        Ok(Offer::Whole { length }) => show(assembler.bytes(length)),
+        Ok(Offer::Alone) => {
+            print!(rt; " alone,")?;
+            show(fragment.contents)
+        }
+        Err(fault) => print!(rt; " {fault};"),
+    }
+}
+
+// Offers the fragment of a row.
 fn offer_piece(rt: &impl Print, assembler: &mut Assembler, piece: Piece) -> io::Result<()> {
     let filled = [piece.fill; 300];
     let Some(contents) = filled.get(..piece.length) else {
@@ -58,18 +79,7 @@ fn offer_piece(rt: &impl Print, assembler: &mut Assembler, piece: Piece) -> io::
         last: piece.last,
         contents,
     };
-    match assembler.offer(fragment) {
-        Ok(Offer::Part) => print!(rt; " part;"),
-        Ok(Offer::Whole { length }) => show_whole(rt, assembler.bytes(length)),
-        Ok(Offer::Alone) => {
-            print!(rt; " alone,")?;
-            show_whole(rt, contents)
-        }
-        Err(fault) => {
-            let refusal = fault.number();
-            print!(rt; " no{refusal};")
-        }
-    }
+    offer_to(rt, assembler, fragment, |bytes| show_sums(rt, bytes))
 }
 
 // Offers fragments to one assembler; the word `clear` drops what it holds.

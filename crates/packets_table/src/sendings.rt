@@ -1,87 +1,57 @@
 // Rows of an instruction that is sent, and whose datagrams are put together in another order.
+use crate::offers::offer_to;
 use assembler::assembly::Assembler;
-use assembler::offer::Offer;
 use packet::datagram::{Datagram, Direction};
 use packet::instruction::Instruction;
-use packet::sending::Sent;
-use std::io;
+use std::{array, io};
 
 // The longest datagram, which each of a sending is but the last.
 const DATAGRAM: usize = 278;
 
 // Byte i is i modulo 251.
 fn pattern() -> [u8; 2048] {
-    let mut bytes = [0u8; 2048];
-    for (i, b) in bytes.iter_mut().enumerate() {
-        *b = (i % 251) as u8;
-    }
-    bytes
+    array::from_fn(|i| (i % 251) as u8)
 }
 
-// The datagram `k` of a sending, if it has so many.
-fn datagram(buffer: &[u8], sent: Sent, k: u8) -> Option<&[u8]> {
-    let start = DATAGRAM * usize::from(k);
-    let end = sent.length.min(start + DATAGRAM);
-    buffer.get(start..end)
+// The datagram `k` of those written back to back, if they reach so far.
+fn datagram(written: &[u8], k: u8) -> Option<&[u8]> {
+    let rest = written.get(DATAGRAM * usize::from(k)..)?;
+    Some(rest.get(..DATAGRAM).unwrap_or(rest))
 }
 
-// Whether bytes are read as the instruction.
-fn is_read(instruction: &Instruction<'_>, bytes: &[u8]) -> bool {
-    match Instruction::read(bytes) {
-        Ok(read) => {
-            read.old == instruction.old
-                && read.new == instruction.new
-                && read.ack == instruction.ack
-                && read.throwaway == instruction.throwaway
-                && read.diff == instruction.diff
-        }
-        Err(_) => false,
-    }
-}
-
-fn show_whole(rt: &impl Print, instruction: &Instruction<'_>, bytes: &[u8]) -> io::Result<()> {
+// Prints the length of an instruction's bytes, and whether they are read as what was sent.
+fn show_whole(rt: &impl Print, sent: &Instruction<'_>, bytes: &[u8]) -> io::Result<()> {
     let length = bytes.len();
-    if is_read(instruction, bytes) {
-        print!(rt; " whole of {length} as sent;")
-    } else {
-        print!(rt; " whole of {length} unlike what was sent;")
-    }
+    let verdict = match Instruction::read(bytes) {
+        Ok(read) if read == *sent => "as sent",
+        _ => "unlike what was sent",
+    };
+    print!(rt; " whole of {length} {verdict};")
 }
 
 // Takes a datagram of the instruction, and prints the answer.
 fn take(
     rt: &impl Print,
     assembler: &mut Assembler,
-    instruction: &Instruction<'_>,
+    sent: &Instruction<'_>,
     bytes: &[u8],
 ) -> io::Result<()> {
-    let fragment = match Datagram::read(bytes, Direction::TowardReader) {
-        Ok(datagram) => datagram.fragment,
-        Err(fault) => {
-            let refusal = fault.number();
-            return print!(rt; " no{refusal};");
-        }
-    };
-    match assembler.offer(fragment) {
-        Ok(Offer::Part) => print!(rt; " part;"),
-        Ok(Offer::Whole { length }) => show_whole(rt, instruction, assembler.bytes(length)),
-        Ok(Offer::Alone) => {
-            print!(rt; " alone,")?;
-            show_whole(rt, instruction, fragment.contents)
-        }
-        Err(fault) => {
-            let refusal = fault.number();
-            print!(rt; " no{refusal};")
-        }
+    match Datagram::read(bytes, Direction::TowardReader) {
+        Ok(datagram) => offer_to(
+            rt,
+            assembler,
+            datagram.fragment,
+            |whole| show_whole(rt, sent, whole),
+        ),
+        Err(fault) => print!(rt; " {fault};"),
     }
 }
 
 // Takes the datagrams of a sending in the order of a row.
 fn take_all(
     rt: &impl Print,
-    instruction: &Instruction<'_>,
-    buffer: &[u8],
-    sent: Sent,
+    sent: &Instruction<'_>,
+    written: &[u8],
     order: &str,
 ) -> io::Result<()> {
     let mut assembler = Assembler::new();
@@ -89,8 +59,8 @@ fn take_all(
         let Ok(k) = word.parse::<u8>() else {
             break;
         };
-        match datagram(buffer, sent, k) {
-            Some(bytes) => take(rt, &mut assembler, instruction, bytes)?,
+        match datagram(written, k) {
+            Some(bytes) => take(rt, &mut assembler, sent, bytes)?,
             None => print!(rt; " none such;")?,
         }
     }
@@ -120,11 +90,9 @@ pub(crate) fn assemble(rt: &impl Print, text: &str) -> io::Result<()> {
         Ok(sent) => {
             let count = sent.count;
             print!(rt; " {count} datagrams;")?;
-            take_all(rt, &instruction, &buffer, sent, order)
+            let written = buffer.get(..sent.length).unwrap_or(&buffer);
+            take_all(rt, &instruction, written, order)
         }
-        Err(refusal) => {
-            let number = refusal.number();
-            println!(rt; " no{number}")
-        }
+        Err(refusal) => println!(rt; " {refusal}"),
     }
 }

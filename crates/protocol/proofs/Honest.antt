@@ -1,10 +1,8 @@
 -- Numbers that stand for fixed states: what a tick sends leads from one to another, and what a take holds is what they are.
-use Rattle.std.proofs.Common.{◌≡◌, ℕ, ◌≤◌, max, true, false, leb, List, length, Ok, Err, Result, sym, ap, ◌∙◌, subst, ⊎_elim, arith}
+use Rattle.std.proofs.Common.{◌≡◌, ℕ, ◌≤◌, max, true, false, leb, List, length, Ok, Err, Result, sym, ap, ◌∙◌, subst, ⊎_elim, arith, Some, Option}
 use Rattle.std.proofs.lemmas.Bool.{cases_eq, and_parts, cond-true, both_ways}
 use Rattle.state.specs.declared.fault.StateFault.{StateFault}
 use Rattle.state.specs.Kind.{Kind, Itself, Onward, Reaches}
-use Rattle.window.specs.declared.answers.Lookup.{Lookup}
-use Rattle.window.specs.declared.answers.Lookup.TheVariants.{Held}
 use Rattle.window.specs.Numbers.{lookup}
 use Rattle.packet.specs.Instructions.{Update, together}
 use Rattle.packet.specs.Datagrams.{Parcel}
@@ -37,7 +35,7 @@ module _ (K L : Kind) (h : Holding K L) where
 
   -- the states held are those that the numbers stand for
   abbrev pub HeldTrue : (ℕ → L.Contents) → Type 0
-  HeldTrue fixed = (n : ℕ) → h.end.incoming.numbers.held n ≡ true → lookup h.end.incoming.numbers h.received_store n ≡ Held (fixed n)
+  HeldTrue fixed = (n : ℕ) → h.end.incoming.numbers.held n ≡ true → lookup h.end.incoming.numbers h.received_store n ≡ Some (fixed n)
 
 -- what a tick sends leads from one to another of the states that it has under its numbers then
 module _ (K L : Kind) (itself : Itself K) (onto : Onward K) (h : Holding K L) (o : Own h.end) (c : Chained K L h) where
@@ -53,17 +51,17 @@ module _ (K L : Kind) (itself : Itself K) (onto : Onward K) (h : Holding K L) (o
 
 module _ (K L : Kind) (reaches : Reaches L) (fixed : ℕ → L.Contents) (h : Holding K L) (o : Own h.end) (fit : length h.received_store ≡ 16) (t : HeldTrue K L h fixed) where
   -- a base that is found is the fixed one
-  base_is : (n : ℕ) (base : L.Contents) → lookup h.end.incoming.numbers h.received_store n ≡ Held base → base ≡ fixed n
+  base_is : (n : ℕ) (base : L.Contents) → lookup h.end.incoming.numbers h.received_store n ≡ Some base → base ≡ fixed n
   base_is n base l = let q = t n (found_held h.end.incoming.numbers h.received_store n base l) in cc
 
-  applied_is : (u : Update) (base : L.Contents) → Honest L fixed u → lookup h.end.incoming.numbers h.received_store u.old ≡ Held base → L.apply base u.diff ≡ Ok (fixed u.new)
+  applied_is : (u : Update) (base : L.Contents) → Honest L fixed u → lookup h.end.incoming.numbers h.received_store u.old ≡ Some base → L.apply base u.diff ≡ Ok (fixed u.new)
   applied_is u base k l = ap (λ b. L.apply b u.diff) (base_is u.old base l) ∙ honest_reaches L fixed u reaches k
 
   -- a state that lands is the one that its number stands for, and the others stay
-  pub land_true : (now : ℕ) (u : Update) (numbers : together u ≡ true) (base c : L.Contents) → Honest L fixed u → h.end.incoming.numbers.held u.new ≡ false → lookup h.end.incoming.numbers h.received_store u.old ≡ Held base → L.apply base u.diff ≡ Ok c → HeldTrue K L (after_take K L h (landed K L h.end h.received_store now u c)) fixed
+  pub land_true : (now : ℕ) (u : Update) (numbers : together u ≡ true) (base c : L.Contents) → Honest L fixed u → h.end.incoming.numbers.held u.new ≡ false → lookup h.end.incoming.numbers h.received_store u.old ≡ Some base → L.apply base u.diff ≡ Ok c → HeldTrue K L (after_take K L h (landed K L h.end h.received_store now u c)) fixed
   land_true now u numbers base c k new l a n held =
       ⊎_elim
-      (λ (e : n ≡ u.new). subst (λ m. lookup after.end.incoming.numbers after.received_store m ≡ Held (fixed m)) (sym e) (landed_new o h.received_store fit u numbers old new c ∙ ap held_as_lem is))
+      (λ (e : n ≡ u.new). subst (λ m. lookup after.end.incoming.numbers after.received_store m ≡ Some (fixed m)) (sym e) (landed_new o h.received_store fit u numbers old new c ∙ ap held_as_lem is))
       (λ (ne : n ≡ u.new → ⊥).
       let p = and_parts (leb from n) (h.end.incoming.numbers.held n) (sym (landed_held h.end.incoming u n ne) ∙ held) in
       landed_other o h.received_store fit u numbers old new c n ne ∙ cond-true (leb from n) _ _ p.0 ∙ t n p.1)
@@ -78,8 +76,8 @@ module _ (K L : Kind) (reaches : Reaches L) (fixed : ℕ → L.Contents) (h : Ho
       old : h.end.incoming.numbers.held u.old ≡ true
       old = found_held h.end.incoming.numbers h.received_store u.old base l
 
-      held_as_lem : L.Contents → Lookup L.Contents
-      held_as_lem x = Held x
+      held_as_lem : L.Contents → Option L.Contents
+      held_as_lem x = Some x
 
       is : c ≡ fixed u.new
       is = let q = applied_is u base k l in cc

@@ -1,8 +1,7 @@
 -- What a tick and a take come to, where it is known which way they go.
-use Rattle.std.proofs.Common.{◌≡◌, ℕ, zero, suc, ◌+◌, ◌-◌, ◌<◌, ◌≤◌, max, Bool, true, false, cond, not, ◌&&◌, ◌||◌, leb, List, [], length, get_or, Ok, refl, ap, ◌∙◌, arith}
+use Rattle.std.proofs.Common.{◌≡◌, ℕ, zero, suc, ◌+◌, ◌-◌, ◌<◌, ◌≤◌, max, Bool, true, false, cond, not, ◌&&◌, ◌||◌, leb, List, [], length, get_or, Ok, refl, ap, ◌∙◌, arith, Some, None}
 use Rattle.std.proofs.lemmas.Bool.{cond-true, cond-false, and_left, and_right, or_right, le-leb, lt-leb, not_from_true, not_from_false}
 use Rattle.state.specs.Kind.{Kind}
-use Rattle.window.specs.declared.answers.Lookup.TheVariants.{Held, Missing}
 use Rattle.window.specs.Numbers.{lookup}
 use Rattle.packet.specs.declared.datagram.Direction.{Direction}
 use Rattle.packet.specs.Pieces.{piece_count}
@@ -82,11 +81,11 @@ module _ (K L : Kind) (h : Holding K L) (time : ℕ) where
     takes_again g bs u r y = takes_found g bs u again r (cond-true (h.end.incoming.numbers.held u.new) _ _ y)
 
     -- whose new number isn't, nor its old one
-    pub takes_baseless : (g : Parcel) (bs : List ℕ) (u : Update) → Reads K L h time bytes g bs u → h.end.incoming.numbers.held u.new ≡ false → lookup h.end.incoming.numbers h.received_store u.old ≡ Missing → taken K L h time bytes ≡ passed K L h.end h.received_store (max h.end.tally.clock time) u (Baseless u.new)
+    pub takes_baseless : (g : Parcel) (bs : List ℕ) (u : Update) → Reads K L h time bytes g bs u → h.end.incoming.numbers.held u.new ≡ false → lookup h.end.incoming.numbers h.received_store u.old ≡ None → taken K L h time bytes ≡ passed K L h.end h.received_store (max h.end.tally.clock time) u (Baseless u.new)
     takes_baseless g bs u r n m = takes_found g bs u baseless r (cond-false (h.end.incoming.numbers.held u.new) _ _ n ∙ ap (based L h.end.incoming.numbers h.received_store u) m)
 
     -- whose old number is held and whose diff applies
-    pub takes_land : (g : Parcel) (bs : List ℕ) (u : Update) (base c : L.Contents) → Reads K L h time bytes g bs u → h.end.incoming.numbers.held u.new ≡ false → lookup h.end.incoming.numbers h.received_store u.old ≡ Held base → L.apply base u.diff ≡ Ok c → taken K L h time bytes ≡ landed K L h.end h.received_store (max h.end.tally.clock time) u c
+    pub takes_land : (g : Parcel) (bs : List ℕ) (u : Update) (base c : L.Contents) → Reads K L h time bytes g bs u → h.end.incoming.numbers.held u.new ≡ false → lookup h.end.incoming.numbers h.received_store u.old ≡ Some base → L.apply base u.diff ≡ Ok c → taken K L h time bytes ≡ landed K L h.end h.received_store (max h.end.tally.clock time) u c
     takes_land g bs u base c r n l a =
         takes_found g bs u (leads c) r
         (cond-false (h.end.incoming.numbers.held u.new) _ _ n ∙ ap (based L h.end.incoming.numbers h.received_store u) l ∙ ap (applied L h.end.incoming.numbers h.received_store u) a)

@@ -1,8 +1,7 @@
 -- What an exchange comes to at each end: a late tick sends from the acknowledged state, and an instruction whose base is held, taken whole, is held and acknowledged.
-use Rattle.std.proofs.Common.{◌≡◌, ℕ, ◌+◌, ◌<◌, ◌≤◌, max, true, false, List, length, Ok, sym, refl, ap, subst, ⊎_elim, arith}
+use Rattle.std.proofs.Common.{◌≡◌, ℕ, ◌+◌, ◌<◌, ◌≤◌, max, true, false, List, length, Ok, sym, refl, ap, subst, ⊎_elim, arith, Some}
 use Rattle.std.proofs.lemmas.Bool.{cases_Bool}
 use Rattle.state.specs.Kind.{Kind, Itself, Onward, Reaches}
-use Rattle.window.specs.declared.answers.Lookup.TheVariants.{Held}
 use Rattle.window.specs.Numbers.{lookup}
 use Rattle.packet.specs.declared.datagram.Direction.{Direction}
 use Rattle.packet.specs.Pieces.{piece_count}
@@ -47,8 +46,8 @@ module _ (K L : Kind) (reaches : Reaches L) (fixed : ℕ → L.Contents) (d : Di
     arrives_newest_is = arrives_honest (λ r. r.end.incoming.newest ≡ max h.end.incoming.newest u.new) (λ y. let le = o.newest_largest u.new y in omega arith) (λ _. refl)
 
     -- its new state is held
-    pub arrives_new : lookup (taken K L h' time bytes).end.incoming.numbers (taken K L h' time bytes).received_store u.new ≡ Held (fixed u.new)
-    arrives_new = arrives_honest (λ r. lookup r.end.incoming.numbers r.received_store u.new ≡ Held (fixed u.new)) (λ y. t u.new y) (λ n. landed_new o h.received_store fit u numbers base n (fixed u.new))
+    pub arrives_new : lookup (taken K L h' time bytes).end.incoming.numbers (taken K L h' time bytes).received_store u.new ≡ Some (fixed u.new)
+    arrives_new = arrives_honest (λ r. lookup r.end.incoming.numbers r.received_store u.new ≡ Some (fixed u.new)) (λ y. t u.new y) (λ n. landed_new o h.received_store fit u numbers base n (fixed u.new))
 
     -- its ack is acknowledged
     pub arrives_acknowledged : (taken K L h' time bytes).end.outgoing.numbers.anchor ≡ max h.end.outgoing.numbers.anchor u.ack

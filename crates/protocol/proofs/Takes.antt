@@ -1,8 +1,7 @@
 -- What a take leaves alone, and what it keeps under its numbers.
-use Rattle.std.proofs.Common.{◌≡◌, ℕ, ◌≤◌, max, true, false, cond, ◌&&◌, leb, List, length, Ok, Err, Result, sym, refl, ap, ◌∙◌, subst, arith}
+use Rattle.std.proofs.Common.{◌≡◌, ℕ, ◌≤◌, max, true, false, cond, ◌&&◌, leb, List, length, Ok, Err, Result, sym, refl, ap, ◌∙◌, subst, arith, Some, None}
 use Rattle.std.proofs.lemmas.Bool.{cond-true, le-leb, eq-eqb, both_ways}
 use Rattle.state.specs.Kind.{Kind}
-use Rattle.window.specs.declared.answers.Lookup.TheVariants.{Held, Missing}
 use Rattle.window.specs.Numbers.{Numbers, put, raise, stored, lookup}
 use Rattle.window.proofs.Laws.{put_anchor, put_other, raise_width, within_raise, length_stored, lookup_put_same, lookup_put_other, lookup_raise}
 use Rattle.packet.specs.Instructions.{Update, together}
@@ -51,7 +50,7 @@ pub record TakeLeaves (K L : Kind) (h : Holding K L) (r : AfterTake K L) : Type 
   pub states : (ks : List K.Contents) (n : ℕ) → r.end.outgoing.numbers.anchor ≤ n → lookup r.end.outgoing.numbers ks n ≡ lookup h.end.outgoing.numbers ks n
 
 -- what a store has under numbers that are raised: what it had from there on, and nothing below
-pub raised_states : {C : Type 0} (w : Numbers) (xs : List C) (n m : ℕ) → lookup (raise w (max w.anchor n)) xs m ≡ cond (leb (max w.anchor n) m) (lookup w xs m) Missing
+pub raised_states : {C : Type 0} (w : Numbers) (xs : List C) (n m : ℕ) → lookup (raise w (max w.anchor n)) xs m ≡ cond (leb (max w.anchor n) m) (lookup w xs m) None
 raised_states w xs n m = lookup_raise w xs (max w.anchor n) m (le-leb w.anchor (max w.anchor n) (omega arith))
 
 -- an instruction whose new number isn't held and whose old number is, once its state is held as new
@@ -60,11 +59,11 @@ module _ {o : Outgoing} {i : Incoming} {t : Tally} (s : Sound o i t) {C : Type 0
   keeps = kept i u.throwaway
 
   -- its new number has that state
-  pub landed_new : lookup (put keeps u.new) (stored keeps ls u.new c) u.new ≡ Held c
+  pub landed_new : lookup (put keeps u.new) (stored keeps ls u.new c) u.new ≡ Some c
   landed_new = lookup_put_same keeps ls u.new c (eq-eqb (length ls) keeps.width (fit ∙ sym (raise_width i.numbers (max i.numbers.anchor u.throwaway) ∙ s.received_width))) (new_free s u numbers old new)
 
   -- every other has what it had, from the larger of the anchor and throwaway on
-  pub landed_other : (m : ℕ) → (m ≡ u.new → ⊥) → lookup (put keeps u.new) (stored keeps ls u.new c) m ≡ cond (leb (max i.numbers.anchor u.throwaway) m) (lookup i.numbers ls m) Missing
+  pub landed_other : (m : ℕ) → (m ≡ u.new → ⊥) → lookup (put keeps u.new) (stored keeps ls u.new c) m ≡ cond (leb (max i.numbers.anchor u.throwaway) m) (lookup i.numbers ls m) None
   landed_other m ne = lookup_put_other keeps ls u.new c m (within_raise i.numbers (max i.numbers.anchor u.throwaway) s.received_within) ne ∙ raised_states i.numbers ls u.throwaway m
 
 -- where its numbers begin then, and which of the others are held
@@ -114,7 +113,7 @@ module _ (K L : Kind) (h : Holding K L) (now : ℕ) (on : h.end.tally.clock ≤ 
         newest = up;
         anchor = higher;
         store_length = long;
-        states = λ ks n le. raised_states h.end.outgoing.numbers ks ack n ∙ cond-true (leb from n) (lookup h.end.outgoing.numbers ks n) Missing (le-leb from n (omega arith));
+        states = λ ks n le. raised_states h.end.outgoing.numbers ks ack n ∙ cond-true (leb from n) (lookup h.end.outgoing.numbers ks n) None (le-leb from n (omega arith));
       }
 
 module _ (K L : Kind) (h : Holding K L) (time : ℕ) (bytes : List ℕ) where

@@ -1,9 +1,7 @@
 -- What a tick leaves alone, what it sends, and what it keeps under its numbers.
-use Rattle.std.proofs.Common.{◌≡◌, ℕ, ◌+◌, ◌<◌, ◌≤◌, max, Bool, true, false, cond, ◌&&◌, leb, List, length, Ok, Err, Result, sym, refl, ap, ◌∙◌, arith}
+use Rattle.std.proofs.Common.{◌≡◌, ℕ, ◌+◌, ◌<◌, ◌≤◌, max, Bool, true, false, cond, ◌&&◌, leb, List, length, Ok, Err, Result, sym, refl, ap, ◌∙◌, arith, Some, None, Option}
 use Rattle.std.proofs.lemmas.Bool.{cond_both, and_parts, and_from, leb-true, le-leb, eq-eqb}
 use Rattle.state.specs.Kind.{Kind}
-use Rattle.window.specs.declared.answers.Lookup.{Lookup}
-use Rattle.window.specs.declared.answers.Lookup.TheVariants.{Held, Missing}
 use Rattle.window.specs.Numbers.{Within, free, stored, lookup}
 use Rattle.window.specs.Calls.{fits}
 use Rattle.window.proofs.Laws.{put_anchor, lookup_some, length_stored, lookup_put_same, lookup_put_other}
@@ -134,22 +132,22 @@ module _ (K : Kind) (e : End K) (ks : List K.Contents) (o : Own e) where
     sent_fits = eq-eqb (length ks) e.outgoing.numbers.width (fit ∙ sym o.sent_width)
 
     -- the store has a state under every number of the sent window
-    pub sent_state_lem : (n : ℕ) → e.outgoing.numbers.anchor ≤ n → n ≤ e.outgoing.top → lookup e.outgoing.numbers ks n ≡ Held (state_at K e.outgoing.numbers ks n)
+    pub sent_state_lem : (n : ℕ) → e.outgoing.numbers.anchor ≤ n → n ≤ e.outgoing.top → lookup e.outgoing.numbers ks n ≡ Some (state_at K e.outgoing.numbers ks n)
     sent_state_lem n a b =
         let s = lookup_some e.outgoing.numbers ks n (sent_within o) sent_fits (sent_has o n a b) in
-        let held : K.Contents → Lookup K.Contents = λ x. Held x in
-        let is : state_at K e.outgoing.numbers ks n ≡ s.0 = ap (λ r. elim r [ Held x ↦ x | Missing ↦ K.start ]) s.2 in
+        let held : K.Contents → Option K.Contents = λ x. Some x in
+        let is : state_at K e.outgoing.numbers ks n ≡ s.0 = ap (λ r. elim r [ Some x ↦ x | None ↦ K.start ]) s.2 in
         s.2 ∙ ap held (sym is)
 
     -- among them the assumed one
-    pub assumed_state_lem : (now : ℕ) → lookup e.outgoing.numbers ks (assumed e.outgoing now) ≡ Held (assumed_state K e ks now)
+    pub assumed_state_lem : (now : ℕ) → lookup e.outgoing.numbers ks (assumed e.outgoing now) ≡ Some (assumed_state K e ks now)
     assumed_state_lem now = let u = update_numbers now in sent_state_lem (assumed e.outgoing now) u.0 u.1.0
 
     -- after a sending it has the new state under the new number
-    pub new_state_lem : (now : ℕ) → lookup (sent_end K e ks now).outgoing.numbers (sent_states K e ks) (new_number K e ks) ≡ Held (new_state K e ks)
+    pub new_state_lem : (now : ℕ) → lookup (sent_end K e ks now).outgoing.numbers (sent_states K e ks) (new_number K e ks) ≡ Some (new_state K e ks)
     new_state_lem now = by (fixes K e ks) (λ f. next_free o (fixes_room K e ks f))
       where
-        by : (fix : Bool) → (fix ≡ true → free e.outgoing.numbers (e.outgoing.top + 1) ≡ true) → lookup (sent_out e.outgoing fix now).numbers (cond fix (stored e.outgoing.numbers ks (leads_to e.outgoing fix) e.current) ks) (leads_to e.outgoing fix) ≡ Held (cond fix e.current (top_state K e.outgoing ks))
+        by : (fix : Bool) → (fix ≡ true → free e.outgoing.numbers (e.outgoing.top + 1) ≡ true) → lookup (sent_out e.outgoing fix now).numbers (cond fix (stored e.outgoing.numbers ks (leads_to e.outgoing fix) e.current) ks) (leads_to e.outgoing fix) ≡ Some (cond fix e.current (top_state K e.outgoing ks))
         by true f = lookup_put_same e.outgoing.numbers ks (e.outgoing.top + 1) e.current sent_fits (f refl)
         by false f = sent_state_lem e.outgoing.top o.acknowledged (omega arith)
 

@@ -1,7 +1,6 @@
 -- An end of the protocol by its contents: what it keeps between calls, and how it is opened, changed and looked at.
-use Rattle.std.specs.Prelude.{ℕ, Bool, cond, ◌&&◌, List, length, replicate, None, Ok, Err, Option, Result, ◌==◌, nat_le, slice_set}
+use Rattle.std.specs.Prelude.{ℕ, Bool, cond, ◌&&◌, List, length, replicate, None, Ok, Err, Option, Result, ◌==◌, nat_le, slice_set, Some}
 use Rattle.state.specs.Kind.{Kind}
-use Rattle.window.specs.declared.answers.Lookup.TheVariants.{Held, Missing}
 use Rattle.window.specs.Numbers.{Numbers, empty, adding, lookup}
 use Rattle.packet.specs.declared.datagram.Direction.{Direction}
 use Rattle.assembler.specs.Contents.{Contents, nothing}
@@ -54,7 +53,7 @@ both_fit xs ys = length xs == 16 && length ys == 16
 
 -- the state under a number, and the start where there is none
 abbrev pub state_at : (K : Kind) → Numbers → List K.Contents → ℕ → K.Contents
-state_at K w xs n = elim (lookup w xs n) [ Held x ↦ x | Missing ↦ K.start ]
+state_at K w xs n = elim (lookup w xs n) [ Some x ↦ x | None ↦ K.start ]
 
 -- at first every number is 0, nothing was sent, nothing is pending or half made
 abbrev pub nothing_out : Outgoing

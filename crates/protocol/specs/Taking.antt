@@ -2,8 +2,6 @@
 use Rattle.std.specs.Prelude.{ℕ, max, cond, List, Some, None, Ok, Err, Option, Result, nat_le, nat_lt}
 use Rattle.state.specs.declared.fault.StateFault.{StateFault}
 use Rattle.state.specs.Kind.{Kind}
-use Rattle.window.specs.declared.answers.Lookup.{Lookup}
-use Rattle.window.specs.declared.answers.Lookup.TheVariants.{Held, Missing}
 use Rattle.window.specs.Numbers.{Numbers, put, raise, stored, lookup}
 use Rattle.packet.specs.declared.refusal.InstructionFault.{InstructionFault}
 use Rattle.packet.specs.declared.refusal.InstructionFault.TheVariants.{AckAhead}
@@ -66,9 +64,9 @@ module _ (L : Kind) (w : Numbers) (ls : List L.Contents) (u : Update) where
   applied (Ok c) = leads c
   applied (Err f) = fails f
 
-  abbrev pub based : Lookup L.Contents → Found L.Contents
-  based Missing = baseless
-  based (Held base) = applied (L.apply base u.diff)
+  abbrev pub based : Option L.Contents → Found L.Contents
+  based None = baseless
+  based (Some base) = applied (L.apply base u.diff)
 
   abbrev pub finds : Found L.Contents
   finds = cond (w.held u.new) again (based (lookup w ls u.old))

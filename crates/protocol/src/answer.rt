@@ -5,7 +5,8 @@ ghost use Rattle.protocol.specs.Answers.{tick_told, take_told};
 use packet::sending::Sent;
 
 // What a tick did: nothing was due, or an instruction went out.
-#[derive(Clone, Copy)]
+// Stays: `Option<Sent>` has as many cases, but the answer's words, idle and sent, are methods of its own type, as those of `Taken` are.
+#[derive(Clone, Copy, PartialEq, Eq, Debug)]
 pub enum Ticked {
     Idle,
     Sent { sent: Sent },
@@ -13,6 +14,7 @@ pub enum Ticked {
 
 impl Ticked {
     // The word for it.
+    // Stays: a caller has the word as a value, to list or to compare, where `Display` would only write it.
     pub fn word(self) -> &'static str
         ensures { result.now ≡ (tick_told self).word }
     {
@@ -45,6 +47,7 @@ pub enum Taken {
 
 impl Taken {
     // The word for it.
+    // Stays: a caller has the word as a value, to list or to compare, where `Display` would only write it.
     pub fn word(self) -> &'static str
         ensures { result.now ≡ (take_told self).word }
     {
@@ -63,10 +66,10 @@ impl Taken {
     {
         match self {
             Taken::Part { fragment } => u32::from(fragment),
-            Taken::Shown { new } => new,
-            Taken::Filled { new } => new,
-            Taken::Again { new } => new,
-            Taken::Baseless { new } => new,
+            Taken::Shown { new }
+            | Taken::Filled { new }
+            | Taken::Again { new }
+            | Taken::Baseless { new } => new,
         }
     }
 }

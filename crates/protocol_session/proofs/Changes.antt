@@ -3,8 +3,8 @@ use Rattle.std.proofs.Common.{◌≡◌, ℕ, ◌≤◌, true, eqb, leb, List, [
 use Rattle.std.proofs.lemmas.Result.{IfOk-at_ok}
 use Rattle.std.proofs.lemmas.Bool.{cond-false, cond_both, and_parts, eqb-true, ne_eqb, leb-true}
 use Rattle.state.specs.Kind.{Kind, Itself, Onward}
-use Rattle.window.specs.declared.answers.Lookup.TheVariants.{Held}
-use Rattle.window.specs.Numbers.{empty, adding, lookup, lying}
+use Rattle.std.specs.List.{slice_get}
+use Rattle.window.specs.Numbers.{empty, adding, lookup}
 use Rattle.packet.specs.declared.datagram.Direction.{Direction}
 use Rattle.packet.specs.declared.datagram.Direction.TheVariants.{TowardDepot, TowardReader}
 use Rattle.protocol.specs.End.{End, Holding, latest, both_fit, fresh, opened, changed, with_current}
@@ -41,7 +41,7 @@ opened_is K L d time ks ls h eq =
     (λ _. tt))
 
 -- what is set at place 0 lies there
-at_front : {X : Type 0} (xs : List X) (x : X) → length xs ≡ 16 → lying (set xs 0 x) 0 ≡ Held x
+at_front : {X : Type 0} (xs : List X) (x : X) → length xs ≡ 16 → slice_get (set xs 0 x) 0 ≡ Some x
 at_front [] x e = absurd (omega arith)
 at_front (y ∷ xs) x e = refl
 
@@ -64,13 +64,13 @@ module _ (K L : Kind) (itself : Itself K) (d : Direction) (t t' : ℕ) (ks : Lis
     unfixed = λ n large. cond-false (eqb n 0) (Some K.start) None (ne_eqb n 0 (λ z. omega arith));
     onward = λ i j a b. subst (λ c. K.follows c (state (begun K d t) j) ≡ true) (sym (begun_state K d t i)) (subst (λ c. K.follows K.start c ≡ true) (sym (begun_state K d t j)) (itself K.start));
     ahead = λ i a. subst (λ c. K.follows c K.start ≡ true) (sym (begun_state K d t i)) (itself K.start);
-    stored = λ n a b. let z : 0 ≡ n = omega arith in subst (λ m. lookup (adding (empty 16) 0) (set ks 0 K.start) m ≡ Held (state (begun K d t) m)) z (at_front ks K.start long);
+    stored = λ n a b. let z : 0 ≡ n = omega arith in subst (λ m. lookup (adding (empty 16) 0) (set ks 0 K.start) m ≡ Some (state (begun K d t) m)) z (at_front ks K.start long);
     sendings = λ s a b. absurd (omega arith);
     air = λ x m. absurd m;
     half = tt;
     holds = λ n h. let e = eqb-true n 0 h in let z : 0 ≡ n = omega arith in record {
       fixed = omega arith;
-      shows = subst (λ m. lookup (adding (empty 16) 0) (set ks' 0 K.start) m ≡ Held (state (begun K d t) m)) z (at_front ks' K.start long');
+      shows = subst (λ m. lookup (adding (empty 16) 0) (set ks' 0 K.start) m ≡ Some (state (begun K d t) m)) z (at_front ks' K.start long');
     };
     dropped = omega arith;
     acks = λ s a b. absurd (omega arith);

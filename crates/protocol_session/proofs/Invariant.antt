@@ -1,7 +1,6 @@
 -- What holds between two ends at every moment of a run, for the direction from the end x to the end y.
 use Rattle.std.proofs.Common.{◌≡◌, ℕ, ◌<◌, ◌≤◌, true, List, length, Some, None, Option}
 use Rattle.state.specs.Kind.{Kind}
-use Rattle.window.specs.declared.answers.Lookup.TheVariants.{Held}
 use Rattle.window.specs.Numbers.{lookup}
 use Rattle.packet.specs.Pieces.{piece_count}
 use Rattle.packet.specs.Instructions.{Update, together, instruction_bytes}
@@ -43,7 +42,7 @@ pub record Carries {K : Kind} (p : Past K) (d : List ℕ) : Type 0 where
 -- a number that the other end holds
 pub record Holds {K : Kind} (o : Outgoing) (p : Past K) (i : Incoming) (store : List K.Contents) (n : ℕ) : Type 0 where
   pub fixed : n ≤ o.top
-  pub shows : lookup i.numbers store n ≡ Held (state p n)
+  pub shows : lookup i.numbers store n ≡ Some (state p n)
 
 -- an ack that was sent
 pub record Acks {L : Kind} (i : Incoming) (q : Past L) (s : ℕ) : Type 0 where
@@ -71,7 +70,7 @@ pub record Joined (K L : Kind) (x : Holding K L) (p : Past K) (y : Holding L K) 
   pub onward : (i j : ℕ) → i ≤ j → j ≤ x.end.outgoing.top → K.follows (state p i) (state p j) ≡ true
   pub ahead : (i : ℕ) → i ≤ x.end.outgoing.top → K.follows (state p i) p.current ≡ true
   -- x's window has them
-  pub stored : (n : ℕ) → x.end.outgoing.numbers.anchor ≤ n → n ≤ x.end.outgoing.top → lookup x.end.outgoing.numbers x.sent_store n ≡ Held (state p n)
+  pub stored : (n : ℕ) → x.end.outgoing.numbers.anchor ≤ n → n ≤ x.end.outgoing.top → lookup x.end.outgoing.numbers x.sent_store n ≡ Some (state p n)
   -- x's sendings, and the datagrams that are in the air
   pub sendings : (s : ℕ) → 1 ≤ s → s ≤ p.sendings → (u : Update) × Instructs x.end.outgoing p s u
   pub air : (d : List ℕ) → Among K L d p.written → Carries p d

@@ -1,8 +1,7 @@
 -- A take keeps what holds between two ends, where the end that takes receives.
-use Rattle.std.proofs.Common.{◌≡◌, ℕ, ◌≤◌, max, Bool, true, false, cond, eqb, leb, ◌⊎◌, List, length, replicate, Ok, Err, sym, refl, ◌∙◌, subst, ⊎_elim, arith}
+use Rattle.std.proofs.Common.{◌≡◌, ℕ, ◌≤◌, max, Bool, true, false, cond, eqb, leb, ◌⊎◌, List, length, replicate, Ok, Err, sym, refl, ◌∙◌, subst, ⊎_elim, arith, Some}
 use Rattle.std.proofs.lemmas.Bool.{cases_eq, and_parts, and_from, le-leb, both_ways}
 use Rattle.state.specs.Kind.{Kind, Reaches}
-use Rattle.window.specs.declared.answers.Lookup.TheVariants.{Held}
 use Rattle.window.specs.Numbers.{lookup}
 use Rattle.window.proofs.Laws.{length_stored}
 use Rattle.packet.specs.Instructions.{Update}
@@ -41,7 +40,7 @@ module _ (K L : Kind) (reaches : Reaches K) (x : Holding K L) (p : Past K) (y : 
   held_true n e = (j.holds n e).shows
 
   -- a state of x's that lands
-  module _ (s now : ℕ) (u : Update) (i : Instructs x.end.outgoing p s u) (base c : K.Contents) (new : y.end.incoming.numbers.held u.new ≡ false) (found : lookup y.end.incoming.numbers y.received_store u.old ≡ Held base) (leads : K.apply base u.diff ≡ Ok c) where
+  module _ (s now : ℕ) (u : Update) (i : Instructs x.end.outgoing p s u) (base c : K.Contents) (new : y.end.incoming.numbers.held u.new ≡ false) (found : lookup y.end.incoming.numbers y.received_store u.old ≡ Some base) (leads : K.apply base u.diff ≡ Ok c) where
     -- the end with it
     abbrev with_new : Holding L K
     with_new = left (landed L K y.end y.received_store now u c)

@@ -2,7 +2,6 @@
 use Rattle.std.proofs.Common.{◌≡◌, ℕ, ◌+◌, ◌-◌, ◌<◌, ◌≤◌, max, true, false, not, eqb, ◌⊎◌, List, length, Some, None, Option, sym, refl, ap, ◌∙◌, subst, inl, inr, ⊎_elim, arith}
 use Rattle.std.proofs.lemmas.Bool.{cases_Bool, cases_lt, cond-true, cond-false, cond_both, and_from, and_cases, not-false, both_ways, eq-eqb, lt-leb, not_from_false}
 use Rattle.state.specs.Kind.{Kind, Exact, Itself, Onward}
-use Rattle.window.specs.declared.answers.Lookup.TheVariants.{Held, Missing}
 use Rattle.protocol.specs.End.{Outgoing, Holding, latest}
 use Rattle.protocol.specs.Ticking.{AfterTick, full, top_state, differs, fixes, new_number, new_state, ticked}
 use Rattle.protocol.specs.Chain.{Chained, sent_state}
@@ -20,7 +19,7 @@ module _ (K L : Kind) (x : Holding K L) (p : Past K) (y : Holding L K) (q : Past
 
   -- what x has under a number from the acknowledged to the last is what it fixed
   sent_is : (n : ℕ) → o.numbers.anchor ≤ n → n ≤ o.top → sent_state K L x n ≡ state p n
-  sent_is n a b = ap (λ r. elim r [ Held z ↦ z | Missing ↦ K.start ]) (j.stored n a b)
+  sent_is n a b = ap (λ r. elim r [ Some z ↦ z | None ↦ K.start ]) (j.stored n a b)
 
   -- as the acknowledged and the last
   anchor_is : sent_state K L x o.numbers.anchor ≡ state p o.numbers.anchor

@@ -1,7 +1,6 @@
 -- What stays of what holds between two ends where one of them goes on.
-use Rattle.std.proofs.Common.{◌≡◌, ℕ, ◌<◌, ◌≤◌, true, List, length, sym, refl, ap, ◌∙◌, subst, arith}
+use Rattle.std.proofs.Common.{◌≡◌, ℕ, ◌<◌, ◌≤◌, true, List, length, sym, refl, ap, ◌∙◌, subst, arith, Some}
 use Rattle.state.specs.Kind.{Kind}
-use Rattle.window.specs.declared.answers.Lookup.TheVariants.{Held}
 use Rattle.window.specs.Numbers.{Numbers, lookup}
 use Rattle.packet.specs.Pieces.{piece_count}
 use Rattle.packet.specs.Instructions.{Update}
@@ -58,7 +57,7 @@ module _ {K : Kind} {o : Outgoing} {p : Past K} {o' : Outgoing} {p' : Past K} (g
 
   -- what is held
   pub holds_still : (i : Incoming) (store : List K.Contents) (n : ℕ) → Holds o p i store n → Holds o' p' i store n
-  holds_still i store n h = record { fixed = omega (arith, h.fixed, g.top); shows = h.shows ∙ ap (λ c. Held c) (sym (g.states n h.fixed)) }
+  holds_still i store n h = record { fixed = omega (arith, h.fixed, g.top); shows = h.shows ∙ ap (λ c. Some c) (sym (g.states n h.fixed)) }
 
 -- an end that was x and is e has sent nothing more
 pub record Quiet {K : Kind} (x e : End K) : Type 0 where

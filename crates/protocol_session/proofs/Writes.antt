@@ -3,7 +3,6 @@ use Rattle.std.proofs.Common.{◌≡◌, ℕ, zero, suc, ◌+◌, ◌<◌, ◌�
 use Rattle.std.specs.List.{range_with_len}
 use Rattle.std.proofs.lemmas.Bool.{cases_lt, cases_Bool, cond-true, cond-false, cond_both, and_parts, eq-eqb, ne_eqb}
 use Rattle.state.specs.Kind.{Kind, Itself}
-use Rattle.window.specs.declared.answers.Lookup.TheVariants.{Held}
 use Rattle.window.specs.Numbers.{lookup}
 use Rattle.packet.specs.declared.datagram.Direction.{Direction}
 use Rattle.packet.specs.Pieces.{piece_count}
@@ -117,7 +116,7 @@ among_sending : (K L : Kind) (d : List ℕ) (w : Direction) (first s : ℕ) (bs 
 unfolding datagrams_of
 among_sending K L d w first s bs m = let r = among_counted K L d (λ k. datagram_bytes (parcel w first s bs k)) 0 (piece_count bs) m in (r.0, (omega (arith, r.1.0), r.1.1))
 
-held_one : {X : Type 0} (a b : X) → Held a ≡ Held b → a ≡ b
+held_one : {X : Type 0} (a b : X) → Some a ≡ Some b → a ≡ b
 held_one a b e = cc
 
 module _ (K L : Kind) (x : Holding K L) (p : Past K) (y : Holding L K) (q : Past L) (time : ℕ) (out : List ℕ) (forth : Joined K L x p y q) where
@@ -241,13 +240,13 @@ module _ (K L : Kind) (x : Holding K L) (p : Past K) (y : Holding L K) (q : Past
     anchor_is : e'.outgoing.numbers.anchor ≡ e.outgoing.numbers.anchor
     anchor_is = sent_anchor e.outgoing (fixes K e ks) at_time
 
-    stored' : (n : ℕ) → e.outgoing.numbers.anchor ≤ n → n ≤ new → lookup e'.outgoing.numbers (sent_states K e ks) n ≡ Held (state p' n)
+    stored' : (n : ℕ) → e.outgoing.numbers.anchor ≤ n → n ≤ new → lookup e'.outgoing.numbers (sent_states K e ks) n ≡ Some (state p' n)
     stored' n a b =
         ⊎_elim
-        (λ (le : n ≤ e.outgoing.top). old_states K e ks forth.own at_time n le ∙ forth.stored n a le ∙ ap (λ c. Held c) (sym (old_state n le)))
+        (λ (le : n ≤ e.outgoing.top). old_states K e ks forth.own at_time n le ∙ forth.stored n a le ∙ ap (λ c. Some c) (sym (old_state n le)))
         (λ (c : (e.outgoing.top < n) × (n ≡ new)).
-        subst (λ k. lookup e'.outgoing.numbers (sent_states K e ks) k ≡ Held (state p' n)) (sym c.1)
-        (new_state_lem K e ks forth.own forth.sent_length at_time ∙ ap (λ z. Held z) (new_is_current (omega (arith, c.0, c.1)) ∙ sym (new_fixed_state n c.0 c.1))))
+        subst (λ k. lookup e'.outgoing.numbers (sent_states K e ks) k ≡ Some (state p' n)) (sym c.1)
+        (new_state_lem K e ks forth.own forth.sent_length at_time ∙ ap (λ z. Some z) (new_is_current (omega (arith, c.0, c.1)) ∙ sym (new_fixed_state n c.0 c.1))))
         (either n b)
 
     grows : Grows e.outgoing p e'.outgoing p'

@@ -1,7 +1,6 @@
 -- The session law: what two ends can count on over any radio, about what they show and how they catch up.
 use Rattle.std.specs.Prelude.{◌≡◌, ℕ, ◌+◌, ◌≤◌, List, [], ◌∷◌, ◌++◌, length, Some, Ok, Err, Result}
 use Rattle.state.specs.Kind.{Kind}
-use Rattle.window.specs.declared.answers.Lookup.TheVariants.{Held}
 use Rattle.window.specs.Numbers.{lookup}
 use Rattle.packet.specs.declared.datagram.Direction.{Direction}
 use Rattle.protocol.specs.declared.answer.Ticked.TheVariants.{Idle, Sent}
@@ -19,7 +18,7 @@ module _ {K L : Kind} where
 
   -- y holds what x has as acknowledged, exactly as x fixed it
   abbrev pub HoldsAcknowledged : Past K → Holding L K → Type 0
-  HoldsAcknowledged p y = (c : K.Contents) × (p.fixed p.acked ≡ Some c) × (lookup y.end.incoming.numbers y.received_store p.acked ≡ Held c)
+  HoldsAcknowledged p y = (c : K.Contents) × (p.fixed p.acked ≡ Some c) × (lookup y.end.incoming.numbers y.received_store p.acked ≡ Some c)
 
   -- y shows x's current state
   abbrev pub UpToDate : Past K → Holding L K → Type 0

@@ -1,11 +1,11 @@
 -- What the calls on a screen give, from what their parts give.
-use Rattle.std.proofs.Common.{◌≡◌, ℕ, suc, ◌+◌, ◌/◌, ◌%◌, ◌<◌, ◌≤◌, true, eqb, ltb, List, [], ◌∷◌, ◌++◌, length, get_or, drop, set, Ok, Err, Result, sym, ap, ◌∙◌, arith}
+use Rattle.std.proofs.Common.{◌≡◌, ℕ, ◌/◌, ◌%◌, ◌<◌, true, eqb, ltb, List, length, get_or, set, Ok, Err, Result, sym, ap, ◌∙◌, arith}
 use Rattle.std.proofs.lemmas.List.{length-set}
 use Rattle.std.proofs.lemmas.Bool.{cond-true, and_from, eq-eqb, lt-ltb}
 use Rattle.state.specs.declared.fault.StateFault.{StateFault}
 use Rattle.screen.specs.declared.screen.Cursor.{Cursor}
-use Rattle.screen.specs.Runs.{is_character, all_characters, put, runs_from, redrawn}
-use Rattle.screen.specs.Screen.{Contents, legal, settled, diff, is_cursor, apply, drawn_at}
+use Rattle.screen.specs.Runs.{is_character, all_characters, redrawn}
+use Rattle.screen.specs.Screen.{Contents, legal, settled, is_cursor, apply, drawn_at}
 use Rattle.screen.specs.Legal.{bounds, settled_legal}
 use Rattle.screen.specs.Placed.{characters_set}
 
@@ -31,17 +31,3 @@ pub drawn_is : (c : Contents) (position character : ℕ) (cells : List ℕ) → 
 drawn_is c position character cells e low good =
     ap (λ xs. (settled (record { cells = set xs position character; row = position / 40; column = position % 40 })).0) e
     ∙ settled_legal (drawn_at c.0 position character) (drawn_legal c position character low good)
-
--- two bytes at the front of a buffer, and a list behind them
-two_front : (out : List ℕ) (r k : ℕ) (rs : List ℕ) → 2 ≤ length out → put (set (set out 0 r) 1 k) 2 rs ≡ r ∷ k ∷ (rs ++ drop (suc (suc (length rs))) out)
-two_front [] r k rs h = absurd (omega arith)
-two_front (x ∷ []) r k rs h = absurd (omega arith)
-two_front (x ∷ y ∷ zs) r k rs h = ap (λ n. r ∷ k ∷ (rs ++ drop n (r ∷ k ∷ zs))) {x = 2 + length rs} {y = suc (suc (length rs))} (omega arith)
-
--- a diff written: its cursor, and then its runs
-pub diff_written : (b t : Contents) (out old new : List ℕ) (row column : ℕ) → length (diff b t) ≤ length out → old ≡ b.0.cells → new ≡ t.0.cells → row ≡ t.0.row → column ≡ t.0.column → put (set (set out 0 row) 1 column) 2 (runs_from old new 0 320) ≡ diff b t ++ drop (length (diff b t)) out
-diff_written b t out old new row column room o n r k =
-    two_front out row column (runs_from old new 0 320) (omega arith)
-    ∙ ap (λ xs. row ∷ column ∷ (xs ++ drop (suc (suc (length xs))) out)) (ap (λ xs. runs_from xs new 0 320) o ∙ ap (λ xs. runs_from b.0.cells xs 0 320) n)
-    ∙ ap (λ x. x ∷ column ∷ (runs_from b.0.cells t.0.cells 0 320 ++ drop (length (diff b t)) out)) r
-    ∙ ap (λ x. t.0.row ∷ x ∷ (runs_from b.0.cells t.0.cells 0 320 ++ drop (length (diff b t)) out)) k

@@ -1,4 +1,4 @@
 pub mod Calls
+pub mod FirstRun
 pub mod Lasting
 pub mod Readers
-pub mod Rows

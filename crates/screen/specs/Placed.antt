@@ -2,16 +2,17 @@
 use Rattle.std.specs.Prelude.{◌≡◌, ℕ, zero, suc, ◌+◌, ◌<◌, ◌≤◌, true, List, [], ◌∷◌, ◌++◌, length, take, drop, set, slice_set, refl}
 use Rattle.std.proofs.Common.{sym, ap, ◌∙◌, append_assoc, arith, drop-drop}
 use borrow.Rule.Slice.PartMut.{put_mid}
-use Rattle.std.proofs.lemmas.List.{length-append, length-drop, take_at, drop_at, take-append-drop, set_split, length-set, length-take-le}
+use Rattle.std.proofs.lemmas.List.{append-nil, drop_all, length-append, length-drop, take_at, drop_at, take-append-drop, take-take, drop-take, set_split, length-set, length-take-le}
 use Rattle.std.proofs.lemmas.Bool.{and_parts, and_from}
+use Rattle.std.proofs.lemmas.List.Recursion.{and_set}
 use Rattle.screen.specs.Runs.{is_character, all_characters, put}
 
 -- a front in two parts
 pub take_plus : (i m : ℕ) (xs : List ℕ) → take (i + m) xs ≡ take i xs ++ take m (drop i xs)
-take_plus zero m xs = ap (λ n. take n xs) (omega arith)
-take_plus (suc i) zero [] = ap (λ n. take {A = ℕ} n []) {x = suc i + 0} {y = suc i} (omega arith)
-take_plus (suc i) (suc m) [] = ap (λ n. take {A = ℕ} n []) {x = suc i + suc m} {y = suc (i + suc m)} (omega arith)
-take_plus (suc i) m (x ∷ xs) = ap (λ n. take n (x ∷ xs)) {x = suc i + m} {y = suc (i + m)} (omega arith) ∙ ap (λ ys. x ∷ ys) (take_plus i m xs)
+take_plus i m xs =
+    sym (take-append-drop i (take (i + m) xs))
+    ∙ ap (λ r. r ++ drop i (take (i + m) xs)) (take-take i (i + m) xs (omega arith))
+    ∙ ap (λ r. take i xs ++ r) (drop-take i m xs)
 
 pub length_put : (xs : List ℕ) (i : ℕ) (ys : List ℕ) → i + length ys ≤ length xs → length (put xs i ys) ≡ length xs
 length_put xs i ys h = omega (arith, length-append (take i xs) (ys ++ drop (i + length ys) xs), length-append ys (drop (i + length ys) xs), length-take-le i xs (omega arith), length-drop (i + length ys) xs)
@@ -31,9 +32,9 @@ put_put xs i ys zs j e h =
     ∙ ap (λ r. take i xs ++ r) (sym (append_assoc ys zs (drop (j + length zs) xs)))
     ∙ ap (λ k. take i xs ++ ((ys ++ zs) ++ drop k xs)) (omega (arith, length-append ys zs))
 
--- nothing put
-pub put_none : (xs : List ℕ) (i : ℕ) → put xs i [] ≡ xs
-put_none xs i = ap (λ k. take i xs ++ drop k xs) (omega arith) ∙ take-append-drop i xs
+-- all elements replaced
+pub put_whole : (xs ys : List ℕ) → length xs ≡ length ys → put xs 0 ys ≡ ys
+put_whole xs ys h = ap (λ r. ys ++ r) (drop_all (0 + length ys) xs (omega arith)) ∙ append-nil ys
 
 -- one element put
 pub put_one : (xs : List ℕ) (i x : ℕ) → i < length xs → slice_set xs i x ≡ put xs i (x ∷ [])
@@ -73,11 +74,7 @@ characters_take (suc i) (x ∷ xs) h =
     and_from (is_character x) (all_characters (take i xs)) p.0 (characters_take i xs p.1)
 
 pub characters_set : (xs : List ℕ) (i a : ℕ) → is_character a ≡ true → all_characters xs ≡ true → all_characters (slice_set xs i a) ≡ true
-characters_set [] i a e h = refl
-characters_set (x ∷ xs) zero a e h = and_from (is_character a) (all_characters xs) e (and_parts (is_character x) (all_characters xs) h).1
-characters_set (x ∷ xs) (suc i) a e h =
-    let p = and_parts (is_character x) (all_characters xs) h in
-    and_from (is_character x) (all_characters (slice_set xs i a)) p.0 (characters_set xs i a e p.1)
+characters_set xs i a e h = and_set all_characters is_character refl (λ _ _. refl) xs i a e h
 
 -- three elements and a list behind them, written one after another
 pub put_three : (xs : List ℕ) (i a b c : ℕ) (ys : List ℕ) → i + (3 + length ys) ≤ length xs → put (slice_set (slice_set (slice_set xs i a) (i + 1) b) (i + 2) c) (i + 3) ys ≡ put xs i (a ∷ b ∷ c ∷ ys)

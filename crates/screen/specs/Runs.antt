@@ -48,6 +48,11 @@ module _ (b t : List ℕ) where
   runs_from i zero = []
   runs_from i (suc n) = run_at i ++ runs_from (i + 1) n
 
+  -- the same bytes, each run's in a list of its own
+  unfoldable pub runs_listed : ℕ → ℕ → List (List ℕ)
+  runs_listed i zero = []
+  runs_listed i (suc n) = cond (begins b t i) (run_at i ∷ runs_listed (i + 1) n) (runs_listed (i + 1) n)
+
 -- what has been read: the cells, and the first position that the next run may have
 pub record Drawing : Type 0 where
   pub cells : List ℕ

@@ -1,7 +1,7 @@
 // The cells of screens, and the runs of cells in which two screens differ.
-ghost use Rattle.std.specs.Prelude.{◌≡◌, ℕ, ◌+◌, ◌-◌, ◌*◌, ◌<◌, ◌≤◌, true, false, length, Ok, Err};
-ghost use Rattle.screen.specs.Runs.{is_character, all_characters, put, differing, run_bytes, runs_from, fits, redrawn};
-ghost use Rattle.screen.specs.Steps.{FirstRun, ReadRun};
+ghost use Rattle.std.specs.Prelude.{◌≡◌, ℕ, ◌+◌, ◌-◌, ◌*◌, ◌%◌, ◌<◌, ◌≤◌, ◌++◌, length, drop, Ok, Err};
+ghost use Rattle.std.specs.Iterator.{YieldsFirstBy, item_count};
+ghost use Rattle.screen.specs.Runs.{is_character, all_characters, differ, begins, run_length, run_bytes, runs_from, runs_listed, fits, redrawn};
 
 use state::fault::StateFault;
 
@@ -13,121 +13,74 @@ pub(crate) const COLUMNS: usize = 40;
 pub(crate) const CELLS: usize = 320;
 
 // The cells of a screen, row by row.
+// Stays: an array of bytes, since a state is a plain copied value with no invariant in its type.
 pub(crate) type Cells = [u8; CELLS];
 
-fn is_character(x: u8) -> bool
+pub(crate) fn is_character(x: u8) -> bool
     ensures { result ≡ is_character x }
 {
-    x >= 32 && x <= 126
+    matches!(x, b' '..=b'~')
 }
 
 pub(crate) fn all_characters(cells: &[u8]) -> bool
     ensures { result ≡ all_characters cells.now }
 {
-    for x in cells {
-        if !is_character(*x) {
-            return false;
-        }
-    }
-    true
+    cells.iter().all(|x| is_character(*x))
 }
 
-// A run of cells, by the position of the first.
+// A run of cells in one row: the position of the first, and the characters.
 #[derive(Clone, Copy)]
-struct Run {
+pub(crate) struct Run<'a> {
     position: usize,
-    length: usize,
+    characters: &'a [u8],
+    ghost on_screen: { position < 320 },
+    ghost in_row: { position % 40 + length characters.now ≤ 40 },
 }
 
-// Of the cells from `from` to `end`, how many differ before the first that do not.
-fn differing_cells(old: &Cells, new: &Cells, from: usize, end: usize) -> usize
-    requires { (from ≤ end) × (end ≤ 320) }
-    ensures { result ≡ differing old.now new.now from (end - from) }
-{
-    let mut i = from;
-    while i < end && old[i] != new[i] {
-        i += 1;
+impl<'a> Run<'a> {
+    ghost use Rattle.screen.specs.Steps.{RunRead};
+
+    // The position behind the last cell.
+    fn end(self) -> usize
+        ensures { result ≡ self.entry.position + length self.entry.characters.now }
+    {
+        self.position + self.characters.len()
     }
-    i - from
-}
 
-// The first run of differing cells from `from` on; the row ends at `end`.
-fn next_run(old: &Cells, new: &Cells, from: usize, end: usize) -> Option<Run>
-    requires { (from ≤ end) × (end ≤ 320) }
-    ensures { FirstRun old.now new.now from end result }
-{
-    for position in from..end {
-        let length = differing_cells(old, new, position, end);
-        if length > 0 {
-            return Some(Run { position, length });
+    // How many bytes tell the run.
+    fn size(self) -> usize
+        ensures { result ≡ 3 + length self.entry.characters.now }
+    {
+        3 + self.characters.len()
+    }
+
+    // Writes the bytes that tell the run, which fill `out`.
+    fn write(self, out: &mut [u8])
+        requires { length out.old ≡ 3 + length self.characters.now }
+        ensures { out.new ≡ run_bytes self.entry.position self.entry.characters.now }
+    {
+        out[0] = (self.position / COLUMNS) as u8;
+        out[1] = (self.position % COLUMNS) as u8;
+        out[2] = self.characters.len() as u8;
+        out[3..].copy_from_slice(self.characters);
+    }
+
+    // The run that `bytes` begin with and the bytes behind it, if it is a good one; cells before `free` are taken.
+    fn read(bytes: &'a [u8], free: usize) -> Option<(Run<'a>, &'a [u8])>
+        ensures { RunRead free bytes.now result }
+    {
+        let [row, column, count, ref behind @ ..] = *bytes else {
+            return None;
+        };
+        let (characters, rest) = behind.split_at_checked(usize::from(count))?;
+        if !run_fits(free, row, column, count) || !all_characters(characters) {
+            return None;
         }
-    }
-    None
-}
-
-// How many bytes the runs of a row take.
-fn row_size(old: &Cells, new: &Cells, row: usize) -> usize
-    requires { row < 8 }
-    ensures { result ≡ length (runs_from old.now new.now (40 * row) 40) }
-{
-    let end = COLUMNS * row + COLUMNS;
-    let mut from = COLUMNS * row;
-    let mut size = 0;
-    while let Some(Run { position, length }) = next_run(old, new, from, end) {
-        size += 3 + length;
-        from = position + length;
-    }
-    size
-}
-
-// How many bytes all runs take.
-pub(crate) fn runs_size(old: &Cells, new: &Cells) -> usize
-    ensures value { result ≡ length (runs_from old.now new.now 0 320) }
-    ensures bound { result ≤ 13760 }
-{
-    let mut size = 0;
-    for row in 0..ROWS {
-        size += row_size(old, new, row);
-    }
-    size
-}
-
-// Writes a run from place `at` of `out` on.
-fn write_run(out: &mut [u8], at: usize, position: usize, characters: &[u8])
-    requires { (position < 320) × ((length characters.now ≤ 40) × (at + (3 + length characters.now) ≤ length out.old)) }
-    ensures { out.new ≡ put out.old at (run_bytes position characters.now) }
-{
-    out[at] = (position / COLUMNS) as u8;
-    out[at + 1] = (position % COLUMNS) as u8;
-    out[at + 2] = characters.len() as u8;
-    out[at + 3..at + 3 + characters.len()].copy_from_slice(characters);
-}
-
-// Writes the runs of a row from place `at` of `out` on, and gives the place behind them.
-fn write_row(old: &Cells, new: &Cells, row: usize, out: &mut [u8], at: usize) -> usize
-    requires { (row < 8) × (at + length (runs_from old.now new.now (40 * row) 40) ≤ length out.old) }
-    ensures place { result ≡ at + length (runs_from old.now new.now (40 * row) 40) }
-    ensures buffer { out.new ≡ put out.old at (runs_from old.now new.now (40 * row) 40) }
-{
-    let end = COLUMNS * row + COLUMNS;
-    let mut from = COLUMNS * row;
-    let mut place = at;
-    while let Some(Run { position, length }) = next_run(old, new, from, end) {
-        from = position + length;
-        write_run(out, place, position, &new[position..from]);
-        place += 3 + length;
-    }
-    place
-}
-
-// Writes all runs from place `at` of `out` on.
-pub(crate) fn write_runs(old: &Cells, new: &Cells, out: &mut [u8], at: usize)
-    requires { at + length (runs_from old.now new.now 0 320) ≤ length out.old }
-    ensures { out.new ≡ put out.old at (runs_from old.now new.now 0 320) }
-{
-    let mut place = at;
-    for row in 0..ROWS {
-        place = write_row(old, new, row, out, place);
+        let run = Run {
+            position: COLUMNS * usize::from(row) + usize::from(column),
+            characters,
+        };
+        Some((run, rest))
     }
 }
 
@@ -141,35 +94,114 @@ fn run_fits(free: usize, row: u8, column: u8, count: u8) -> bool
         && free <= COLUMNS * usize::from(row) + usize::from(column)
 }
 
-// The run that `bytes` begin with, if it is a good one.
-fn read_run(bytes: &[u8], free: usize) -> Option<Run>
-    ensures { ReadRun free bytes.now result }
-{
-    if bytes.len() < 3 || !run_fits(free, bytes[0], bytes[1], bytes[2]) {
-        return None;
-    }
-    let position = COLUMNS * usize::from(bytes[0]) + usize::from(bytes[1]);
-    let length = usize::from(bytes[2]);
-    if bytes.len() < 3 + length || !all_characters(&bytes[3..3 + length]) {
-        return None;
-    }
-    Some(Run { position, length })
+// What changed between two screens: the cells before, and those after.
+#[derive(Clone, Copy)]
+pub(crate) struct Difference<'a> {
+    pub(crate) old: &'a Cells,
+    pub(crate) new: &'a Cells,
 }
 
-// Takes all runs of a diff into `cells`; after a refusal these may have some of them.
+impl<'a> Difference<'a> {
+    ghost use Rattle.screen.specs.Steps.{FirstDiffering, runs_left};
+
+    // The first position from `from` on at which the cells differ.
+    fn first_differing(self, from: usize) -> Option<usize>
+        requires { from ≤ 320 }
+        ensures { FirstDiffering self.entry.old.now self.entry.new.now from result }
+    {
+        (from..CELLS).find(|i| self.old[*i] != self.new[*i])
+    }
+
+    // Of the cells from `position` to the end of its row, how many differ before the first that do not.
+    fn run_length(self, position: usize) -> usize
+        requires { position < 320 }
+        ensures { result ≡ run_length self.entry.old.now self.entry.new.now position }
+    {
+        let Difference { old, new } = self;
+        let end = position - position % COLUMNS + COLUMNS;
+        old[position..end]
+            .iter()
+            .zip(&new[position..end])
+            .take_while(|(a, b)| a != b)
+            .count()
+    }
+
+    // The runs of differing cells, from the first position to the last.
+    fn runs(self) -> Runs<'a>
+        ensures { runs_left result ≡ runs_listed self.entry.old.now self.entry.new.now 0 320 }
+    {
+        Runs {
+            difference: self,
+            from: 0,
+        }
+    }
+
+    // How many bytes tell all runs.
+    pub(crate) fn size(self) -> usize
+        ensures value { result ≡ length (runs_from self.entry.old.now self.entry.new.now 0 320) }
+        ensures bound { result ≤ 13760 }
+    {
+        self.runs().map(|run| run.size()).sum()
+    }
+
+    // Writes all runs at the front of `out`.
+    pub(crate) fn write(self, out: &mut [u8])
+        requires { length (runs_from self.old.now self.new.now 0 320) ≤ length out.old }
+        ensures { out.new ≡ runs_from self.entry.old.now self.entry.new.now 0 320 ++ drop (length (runs_from self.entry.old.now self.entry.new.now 0 320)) out.old }
+    {
+        let mut at = 0;
+        for run in self.runs() {
+            let end = at + run.size();
+            run.write(&mut out[at..end]);
+            at = end;
+        }
+    }
+}
+
+// The runs of differing cells that begin at `from` or behind it.
+#[derive(Drop)]
+struct Runs<'a> {
+    difference: Difference<'a>,
+    from: usize,
+    ghost on_screen: { from ≤ 320 },
+    ghost between_runs: { begins difference.old.now difference.new.now from ≡ differ difference.old.now difference.new.now from },
+}
+
+impl<'a> Iterator for Runs<'a> {
+    type Item = Run<'a>;
+
+    ghost use Rattle.screen.specs.Steps.{bytes_of, runs_left};
+
+    ghost next_gives = { YieldsFirstBy bytes_of runs_left };
+
+    ghost remaining = { item_count runs_left };
+
+    fn next(&mut self) -> Option<Run<'a>> {
+        let position = self.difference.first_differing(self.from)?;
+        let end = position + self.difference.run_length(position);
+        self.from = end;
+        let cells = self.difference.new;
+        Some(Run {
+            position,
+            characters: &cells[position..end],
+        })
+    }
+}
+
+// Takes all runs of a diff, which stand behind its cursor, into `cells`; after a refusal these may have some of them.
 pub(crate) fn redraw(cells: &mut Cells, d: &[u8]) -> Result<(), StateFault>
+    requires { 2 ≤ length d.now }
     ensures { elim result [ Ok u ↦ redrawn cells.old d.now ≡ Ok cells.new | Err f ↦ redrawn cells.old d.now ≡ Err f ] }
 {
-    let mut at = 2;
+    let mut rest = &d[2..];
     let mut free = 0;
-    while at < d.len() {
-        let Some(Run { position, length }) = read_run(&d[at..], free) else {
-            return Err(StateFault::BadRun { at });
-        };
-        free = position + length;
-        let text = at + 3;
-        at = text + length;
-        cells[position..free].copy_from_slice(&d[text..at]);
+    // Stays: nothing is counted, since the place is how much is gone; and each run is read by where the one before ended.
+    while !rest.is_empty() {
+        let at = d.len() - rest.len();
+        let (run, behind) = Run::read(rest, free).ok_or(StateFault::BadRun { at })?;
+        free = run.end();
+        cells[run.position..free].copy_from_slice(run.characters);
+        rest = behind;
     }
     Ok(())
 }

@@ -8,7 +8,7 @@ ghost use Rattle.screen.specs.Legal;
 ghost use Rattle.screen.specs.Arrival;
 ghost use Rattle.std.proofs.Common.{rules};
 
-use crate::runs::{CELLS, COLUMNS, Cells, ROWS, all_characters, redraw, runs_size, write_runs};
+use crate::runs::{CELLS, COLUMNS, Difference, ROWS, all_characters, is_character, redraw};
 use state::fault::{DiffRefusal, EditRefusal, StateFault};
 use state::state::State;
 
@@ -25,35 +25,16 @@ impl Cursor {
     {
         usize::from(self.row) < ROWS && usize::from(self.column) < COLUMNS
     }
-}
 
-fn same_cursor(a: Cursor, b: Cursor) -> bool
-    ensures { result ≡ (a.row == b.row && a.column == b.column) }
-{
-    a == b
-}
-
-fn same_cells(a: &Cells, b: &Cells) -> bool
-    ensures { result ≡ bytes_eq a.now b.now }
-{
-    a == b
-}
-
-// The cursor that a diff begins with.
-fn read_cursor(d: &[u8]) -> Result<Cursor, StateFault>
-    ensures { CursorTold d.now result }
-{
-    if d.len() < 2 {
-        return Err(StateFault::BadRun { at: 0 });
-    }
-    let cursor = Cursor {
-        row: d[0],
-        column: d[1],
-    };
-    if cursor.is_on_screen() {
-        Ok(cursor)
-    } else {
-        Err(StateFault::BadRun { at: 0 })
+    // The cursor that a diff begins with, if it is on the screen.
+    fn read(d: &[u8]) -> Option<Cursor>
+        ensures { CursorTold d.now result }
+    {
+        let [row, column, ..] = *d else {
+            return None;
+        };
+        let cursor = Cursor { row, column };
+        cursor.is_on_screen().then_some(cursor)
     }
 }
 
@@ -101,10 +82,21 @@ impl Screen {
     fn taking(&self, d: &[u8]) -> Result<Screen, StateFault>
         ensures { Taken self.now d.now result }
     {
-        let cursor = read_cursor(d)?;
+        let cursor = Cursor::read(d).ok_or(StateFault::BadRun { at: 0 })?;
         let mut cells = *self.cells();
         redraw(&mut cells, d)?;
         Ok(Screen { cells, cursor })
+    }
+
+    // What changed from `base` to this screen.
+    fn since<'a>(&'a self, base: &'a Screen) -> Difference<'a>
+        ensures old { result.old.now ≡ (contents_of base.now).0.cells }
+        ensures new { result.new.now ≡ (contents_of self.now).0.cells }
+    {
+        Difference {
+            old: base.cells(),
+            new: self.cells(),
+        }
     }
 
     // The length of the diff from `base` to this screen.
@@ -112,7 +104,7 @@ impl Screen {
         ensures value { result ≡ length (diff (contents_of base.now) (contents_of self.now)) }
         ensures bound { result ≤ 13762 }
     {
-        2 + runs_size(base.cells(), self.cells())
+        2 + self.since(base).size()
     }
 
     // Writes the diff from `base` to this screen at the front of `out`.
@@ -123,7 +115,7 @@ impl Screen {
         let Cursor { row, column } = self.cursor();
         out[0] = row;
         out[1] = column;
-        write_runs(base.cells(), self.cells(), out, 2);
+        self.since(base).write(&mut out[2..]);
     }
 
     // This screen with one character drawn, and the cursor on it.
@@ -144,10 +136,13 @@ impl Screen {
     pub fn with_character(&self, position: u32, character: u32) -> Result<Screen, EditRefusal>
         ensures { Drawn self.now position character result }
     {
-        if position >= 320 || character < 32 || character > 126 {
-            return Err(EditRefusal::OutsideField);
+        let position = position as usize;
+        match u8::try_from(character) {
+            Ok(character) if position < CELLS && is_character(character) => {
+                Ok(self.drawing(position, character))
+            }
+            _ => Err(EditRefusal::OutsideField),
         }
-        Ok(self.drawing(position as usize, character as u8))
     }
 }
 
@@ -169,7 +164,7 @@ impl State for Screen {
     }
 
     fn same(&self, other: &Screen) -> bool {
-        same_cursor(self.cursor(), other.cursor()) && same_cells(self.cells(), other.cells())
+        self.cursor() == other.cursor() && self.cells() == other.cells()
     }
 
     fn follows(&self, _base: &Screen) -> bool {

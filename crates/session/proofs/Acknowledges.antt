@@ -12,8 +12,8 @@ use Rattle.packet.proofs.Layouts.{instruction_length}
 use Rattle.packet.proofs.Sendings.{datagram_read}
 use Rattle.assembler.specs.Contents.{Contents, nothing, collecting, collects, held_of, none}
 use Rattle.assembler.specs.Assembling.{gathered}
-use Rattle.endpoint.specs.declared.answer.Taken.TheVariants.{Shown, Filled}
-use Rattle.endpoint.specs.declared.fault.TakeFault.{TakeFault}
+use Rattle.protocol.specs.declared.answer.Taken.TheVariants.{Shown, Filled}
+use Rattle.protocol.specs.declared.fault.TakeFault.{TakeFault}
 use Rattle.endpoint.specs.End.{Holding}
 use Rattle.endpoint.specs.Taking as take
 use Rattle.endpoint.specs.Taking.{AfterTake, taken}

@@ -13,9 +13,9 @@ use Rattle.packet.proofs.Layouts.{instruction_length}
 use Rattle.packet.proofs.Sendings.{datagram_read}
 use Rattle.assembler.specs.Contents.{held_of}
 use Rattle.assembler.specs.Assembling.{gathered}
-use Rattle.endpoint.specs.declared.answer.Taken.{Taken}
-use Rattle.endpoint.specs.declared.answer.Taken.TheVariants.{Part, Shown, Filled, Again, Baseless}
-use Rattle.endpoint.specs.declared.fault.TakeFault.{TakeFault}
+use Rattle.protocol.specs.declared.answer.Taken.{Taken}
+use Rattle.protocol.specs.declared.answer.Taken.TheVariants.{Part, Shown, Filled, Again, Baseless}
+use Rattle.protocol.specs.declared.fault.TakeFault.{TakeFault}
 use Rattle.endpoint.specs.End.{Holding, latest}
 use Rattle.endpoint.specs.Taking.{kept, pending_from, taken}
 use Rattle.endpoint.proofs.Ways.{Called}

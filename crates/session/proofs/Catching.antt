@@ -1,7 +1,7 @@
 -- Two exchanges bring both ends up to date, from what half an exchange leaves.
 use Rattle.std.proofs.Common.{◌≡◌, ℕ, ◌+◌, ◌<◌, ◌≤◌, Some, Ok, Option, Result, ap, ◌∙◌, arith}
 use Rattle.state.specs.Kind.{Kind}
-use Rattle.endpoint.specs.declared.fault.CallRefusal.{CallRefusal}
+use Rattle.protocol.specs.declared.fault.CallRefusal.{CallRefusal}
 use Rattle.endpoint.specs.End.{looked}
 use Rattle.session.specs.Law.{Fits, Half, Exchange, UpToDate}
 use Rattle.session.specs.Runs.{World, flipped}

@@ -3,8 +3,8 @@ use Rattle.std.proofs.Common.{◌≡◌, ℕ, ◌<◌, ◌≤◌, true, false, e
 use Rattle.std.proofs.lemmas.Result.{IfOk-at_ok}
 use Rattle.std.proofs.lemmas.Bool.{cond-true, cond-false, cond_both, and_parts, eqb-true, ne_eqb, leb-true, both_ways}
 use Rattle.state.specs.Kind.{Kind, Itself, Onward}
-use Rattle.window.specs.declared.answers.Lookup.TheVariants.{Held}
-use Rattle.window.specs.Numbers.{empty, adding, lookup, lying}
+use Rattle.std.specs.List.{slice_get}
+use Rattle.window.specs.Numbers.{empty, adding, lookup}
 use Rattle.packet.specs.declared.datagram.Direction.{Direction}
 use Rattle.packet.specs.declared.datagram.Direction.TheVariants.{TowardDepot, TowardReader}
 use Rattle.packet.specs.Pieces.{piece_count}
@@ -14,7 +14,7 @@ use Rattle.packet.specs.Sendings.{parcel}
 use Rattle.assembler.specs.Contents.{collects, held_of}
 use Rattle.assembler.specs.Assembling.{gathered}
 use Rattle.endpoint.specs.End.{End, Holding, latest, both_fit, fresh, opened, changed, with_current}
-use Rattle.endpoint.specs.declared.fault.ChangeRefusal.TheVariants.{NotFollowing}
+use Rattle.protocol.specs.declared.fault.ChangeRefusal.TheVariants.{NotFollowing}
 use Rattle.endpoint.proofs.Keeping.{own_fresh, own_changed, in_order}
 use Rattle.session.specs.History.{Past, begun, opposite, after_change}
 use Rattle.session.specs.Runs.{World, change, changed_to, move}
@@ -45,7 +45,7 @@ opened_is K L d time ks ls h eq =
     (λ _. tt))
 
 -- what is set at place 0 lies there
-at_front : {X : Type 0} (xs : List X) (x : X) → length xs ≡ 16 → lying (set xs 0 x) 0 ≡ Held x
+at_front : {X : Type 0} (xs : List X) (x : X) → length xs ≡ 16 → slice_get (set xs 0 x) 0 ≡ Some x
 at_front [] x e = absurd (omega arith)
 at_front (y ∷ xs) x e = refl
 
@@ -66,13 +66,13 @@ module _ (K L : Kind) (itself : Itself K) where
     unfixed = λ n large. cond-false (eqb n 0) (Some K.start) None (ne_eqb n 0 (λ z. omega arith));
     onward = λ i j a b. subst (λ c. K.follows c (state (begun K t) j) ≡ true) (sym (begun_state K t i)) (subst (λ c. K.follows K.start c ≡ true) (sym (begun_state K t j)) (itself K.start));
     ahead = λ i a. subst (λ c. K.follows c K.start ≡ true) (sym (begun_state K t i)) (itself K.start);
-    stored = λ n a b. let z : 0 ≡ n = omega arith in subst (λ m. lookup (adding (empty 16) 0) (set ks 0 K.start) m ≡ Held (state (begun K t) m)) z (at_front ks K.start long);
+    stored = λ n a b. let z : 0 ≡ n = omega arith in subst (λ m. lookup (adding (empty 16) 0) (set ks 0 K.start) m ≡ Some (state (begun K t) m)) z (at_front ks K.start long);
     sendings = λ s a b. absurd (omega arith);
     air = λ x m. absurd m;
     half = λ s c. absurd (both_ways false refl c);
     holds = λ n h. let e = eqb-true n 0 h in let z : 0 ≡ n = omega arith in record {
       fixed = omega arith;
-      shows = subst (λ m. lookup (adding (empty 16) 0) (set ks' 0 K.start) m ≡ Held (state (begun K t) m)) z (at_front ks' K.start long');
+      shows = subst (λ m. lookup (adding (empty 16) 0) (set ks' 0 K.start) m ≡ Some (state (begun K t) m)) z (at_front ks' K.start long');
     };
     dropped = omega arith;
     acks = λ s a b. absurd (omega arith);
@@ -130,7 +130,7 @@ module _ {K L : Kind} {x : End K L} {p : Past K} {x' : End K L} {p' : Past K} (g
   pub holds_still : (y : Holding L K) (n : ℕ) → Holds K L x p y n → Holds K L x' p' y n
   holds_still y n a = record {
     fixed = omega (arith, a.fixed, g.top);
-    shows = a.shows ∙ ap (λ c. Held c) (sym (g.states n a.fixed));
+    shows = a.shows ∙ ap (λ c. Some c) (sym (g.states n a.fixed));
   }
 
 -- an end that goes on receiving as before: the direction toward it stays as it was

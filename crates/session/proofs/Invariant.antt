@@ -1,7 +1,6 @@
 -- What holds between two ends at every moment of a run, for the direction from the end x to the end y.
 use Rattle.std.proofs.Common.{◌≡◌, ℕ, ◌<◌, ◌≤◌, Bool, true, List, length, Some, None, Option}
 use Rattle.state.specs.Kind.{Kind}
-use Rattle.window.specs.declared.answers.Lookup.TheVariants.{Held}
 use Rattle.window.specs.Numbers.{lookup}
 use Rattle.packet.specs.Pieces.{piece_count}
 use Rattle.packet.specs.Instructions.{Update, together, instruction_bytes}
@@ -51,7 +50,7 @@ pub record Gathers (K L : Kind) (x : End K L) (p : Past K) (y : End L K) (s : �
 -- a number that y holds
 pub record Holds (K L : Kind) (x : End K L) (p : Past K) (y : Holding L K) (n : ℕ) : Type 0 where
   pub fixed : n ≤ x.top
-  pub shows : lookup y.end.received y.received_store n ≡ Held (state p n)
+  pub shows : lookup y.end.received y.received_store n ≡ Some (state p n)
 
 -- an ack that y sent
 pub record Acks (K L : Kind) (y : End L K) (q : Past L) (s : ℕ) : Type 0 where
@@ -76,7 +75,7 @@ pub record Joined (K L : Kind) (x : Holding K L) (p : Past K) (y : Holding L K) 
   pub onward : (i j : ℕ) → i ≤ j → j ≤ x.end.top → K.follows (state p i) (state p j) ≡ true
   pub ahead : (i : ℕ) → i ≤ x.end.top → K.follows (state p i) x.end.current ≡ true
   -- x's window has them
-  pub stored : (n : ℕ) → x.end.sent.anchor ≤ n → n ≤ x.end.top → lookup x.end.sent x.sent_store n ≡ Held (state p n)
+  pub stored : (n : ℕ) → x.end.sent.anchor ≤ n → n ≤ x.end.top → lookup x.end.sent x.sent_store n ≡ Some (state p n)
   -- x's sendings, and the datagrams that are in the air
   pub sendings : (s : ℕ) → 1 ≤ s → s ≤ x.end.sendings → (u : Update) × Instructs K L x.end p s u
   pub air : (d : List ℕ) → Among K L d p.written → Carries K L x.end p d

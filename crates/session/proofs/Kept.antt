@@ -1,7 +1,7 @@
 -- Every call of a run keeps what holds between the two ends, given that each kind of call keeps each direction.
 use Rattle.std.proofs.Common.{◌≡◌, ℕ, ◌⊎◌, List, [], ◌∷◌, Err}
 use Rattle.state.specs.Kind.{Kind}
-use Rattle.endpoint.specs.declared.fault.TakeFault.{TakeFault}
+use Rattle.protocol.specs.declared.fault.TakeFault.{TakeFault}
 use Rattle.endpoint.specs.End.{Holding, changed}
 use Rattle.session.specs.History.{Past, opposite, piece_in, after_change, after_tick, after_take}
 use Rattle.session.specs.Runs.{Lent, Call, change, tick, take, look, World, flipped, Among, changed_to, ticks, takes, ticked_to, taken_to, move, Supposed, Step, first, second, step, SupposedOf, run, SupposedAll}

@@ -1,9 +1,8 @@
 -- A take keeps what holds between two ends, where the end that takes receives.
-use Rattle.std.proofs.Common.{◌≡◌, ℕ, ◌+◌, ◌≤◌, max, Bool, true, false, cond, ◌&&◌, eqb, ltb, leb, ◌⊎◌, List, length, replicate, None, Ok, Err, Result, sym, refl, ap, ◌∙◌, subst, ⊎_elim, arith}
+use Rattle.std.proofs.Common.{◌≡◌, ℕ, ◌+◌, ◌≤◌, max, Bool, true, false, cond, ◌&&◌, eqb, ltb, leb, ◌⊎◌, List, length, replicate, None, Ok, Err, Result, sym, refl, ap, ◌∙◌, subst, ⊎_elim, arith, Some}
 use Rattle.std.proofs.lemmas.Bool.{cases_Bool, cases_eq, cond-true, cond-false, and_parts, and_from, and_right, le-leb, leb-true, eq-eqb, eqb-true, both_ways}
 use Rattle.std.proofs.lemmas.List.{length-replicate}
 use Rattle.state.specs.Kind.{Kind, Reaches}
-use Rattle.window.specs.declared.answers.Lookup.TheVariants.{Held}
 use Rattle.window.specs.Numbers.{Numbers, lookup}
 use Rattle.window.proofs.Laws.{put_other, length_stored}
 use Rattle.packet.specs.declared.datagram.Direction.{Direction}
@@ -21,9 +20,9 @@ use Rattle.assembler.specs.Offers.{Outcome, partly, wholly, offered}
 use Rattle.assembler.specs.Assembling.{every, gathered, also}
 use Rattle.assembler.proofs.Assembling.{assembles}
 use Rattle.assembler.proofs.Offering.{held_own, held_other}
-use Rattle.endpoint.specs.declared.answer.Taken.{Taken}
-use Rattle.endpoint.specs.declared.answer.Taken.TheVariants.{Part, Shown, Filled, Again, Baseless}
-use Rattle.endpoint.specs.declared.fault.TakeFault.{TakeFault}
+use Rattle.protocol.specs.declared.answer.Taken.{Taken}
+use Rattle.protocol.specs.declared.answer.Taken.TheVariants.{Part, Shown, Filled, Again, Baseless}
+use Rattle.protocol.specs.declared.fault.TakeFault.{TakeFault}
 use Rattle.endpoint.specs.End.{Holding}
 use Rattle.endpoint.specs.Taking as take
 use Rattle.endpoint.specs.Taking.{AfterTake, collected, kept, landed, taken}
@@ -154,7 +153,7 @@ module _ (K L : Kind) (reaches : Reaches K) (x : Holding K L) (p : Past K) (h : 
   held_true n e = (j.holds n e).shows
 
   -- a state of x's that lands
-  module _ (s now : ℕ) (u : Update) (i : Instructs K L x.end p s u) (base c : K.Contents) (new : h.end.received.held u.new ≡ false) (found : lookup h.end.received h.received_store u.old ≡ Held base) (leads : K.apply base u.diff ≡ Ok c) where
+  module _ (s now : ℕ) (u : Update) (i : Instructs K L x.end p s u) (base c : K.Contents) (new : h.end.received.held u.new ≡ false) (found : lookup h.end.received h.received_store u.old ≡ Some base) (leads : K.apply base u.diff ≡ Ok c) where
     -- the end with it
     abbrev with_new : Holding L K
     with_new = left (landed L K h now u c)

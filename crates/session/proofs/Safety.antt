@@ -1,15 +1,13 @@
 -- What the invariant says of what is shown, and that the number shown never falls.
-use Rattle.std.proofs.Common.{◌≡◌, ℕ, ◌≤◌, Bool, true, false, cond, eqb, List, [], ◌∷◌, ◌++◌, length, Some, Ok, Err, Result, refl, ap, ◌∙◌, subst, le_trans, le_refl, arith}
+use Rattle.std.proofs.Common.{◌≡◌, ℕ, ◌≤◌, Bool, true, false, cond, eqb, List, [], ◌∷◌, ◌++◌, length, Some, Ok, Err, Result, refl, ap, ◌∙◌, subst, le_trans, le_refl, arith, None, Option}
 use Rattle.std.proofs.lemmas.Bool.{cond-true, eq-eqb}
 use Rattle.state.specs.Kind.{Kind}
-use Rattle.window.specs.declared.answers.Lookup.{Lookup}
-use Rattle.window.specs.declared.answers.Lookup.TheVariants.{Held, Missing}
 use Rattle.window.specs.Numbers.{lookup}
-use Rattle.endpoint.specs.declared.fault.CallRefusal.{CallRefusal}
-use Rattle.endpoint.specs.declared.fault.CallRefusal.TheVariants.{WrongStore}
+use Rattle.protocol.specs.declared.fault.CallRefusal.{CallRefusal}
+use Rattle.protocol.specs.declared.fault.CallRefusal.TheVariants.{WrongStore}
 use Rattle.endpoint.specs.End.{Holding, changed, looked, state_at, with_current}
 use Rattle.endpoint.specs.Own.{Own}
-use Rattle.endpoint.specs.declared.fault.ChangeRefusal.TheVariants.{NotFollowing}
+use Rattle.protocol.specs.declared.fault.ChangeRefusal.TheVariants.{NotFollowing}
 use Rattle.endpoint.proofs.Takes.{take_leaves}
 use Rattle.endpoint.proofs.Ticks.{tick_leaves}
 use Rattle.session.specs.History.{Past}
@@ -18,12 +16,12 @@ use Rattle.session.specs.Runs.{World, flipped, Call, change, tick, take, look, S
 use Rattle.session.proofs.Invariant.{Joined, state}
 
 module _ (K L : Kind) (x : Holding K L) (p : Past K) (y : Holding L K) (q : Past L) (j : Joined K L x p y q) (own-y : Own L K y.end) where
-  found : lookup y.end.received y.received_store y.end.newest ≡ Held (state p y.end.newest)
+  found : lookup y.end.received y.received_store y.end.newest ≡ Some (state p y.end.newest)
   found = (j.holds y.end.newest own-y.newest_held).shows
 
   pub looks : looked L K y.end y.received_store ≡ Ok (y.end.newest, state p y.end.newest)
   looks =
-      let on : Lookup K.Contents → Result (ℕ × K.Contents) CallRefusal = λ o. Ok (y.end.newest, elim o [ Held c ↦ c | Missing ↦ K.start ]) in
+      let on : Option K.Contents → Result (ℕ × K.Contents) CallRefusal = λ o. Ok (y.end.newest, elim o [ Some c ↦ c | None ↦ K.start ]) in
       cond-true (eqb (length y.received_store) 16) _ _ (eq-eqb _ 16 j.received_length) ∙ ap on found
 
   -- what y shows is what x fixed
@@ -36,7 +34,7 @@ module _ (K L : Kind) (x : Holding K L) (p : Past K) (y : Holding L K) (q : Past
       let h = j.holds x.end.sent.anchor j.confirmed in (
         state p p.acked,
         subst (λ (n : ℕ). p.fixed n ≡ Some (state p n)) j.acked (j.fixed x.end.sent.anchor h.fixed),
-        subst (λ (n : ℕ). lookup y.end.received y.received_store n ≡ Held (state p n)) j.acked h.shows,
+        subst (λ (n : ℕ). lookup y.end.received y.received_store n ≡ Some (state p n)) j.acked h.shows,
       )
 
 -- the number that an end shows never falls under a call, on it or on the other

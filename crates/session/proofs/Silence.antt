@@ -2,13 +2,12 @@
 use Rattle.std.proofs.Common.{◌≡◌, ℕ, ◌+◌, ◌-◌, ◌<◌, ◌≤◌, max, true, false, cond, not, eqb, ◌⊎◌, List, length, Some, None, Ok, Err, Option, sym, refl, ap, ◌∙◌, subst, inl, inr, ⊎_elim, arith}
 use Rattle.std.proofs.lemmas.Bool.{cases_Bool, cases_lt, cond-true, cond-false, cond_both, and_from, and_cases, not-false, both_ways, eq-eqb, lt-leb, not_from_false}
 use Rattle.state.specs.Kind.{Kind, Exact, Itself, Onward}
-use Rattle.window.specs.declared.answers.Lookup.TheVariants.{Held, Missing}
 use Rattle.packet.specs.Pieces.{Piece, piece, piece_count}
 use Rattle.packet.specs.Instructions.{Update, instruction_bytes}
 use Rattle.packet.specs.Sendings.{datagrams_of}
 use Rattle.packet.proofs.Layouts.{instruction_length}
 use Rattle.packet.proofs.Sendings.{datagram_read}
-use Rattle.endpoint.specs.declared.answer.Ticked.TheVariants.{Sent}
+use Rattle.protocol.specs.declared.answer.Ticked.TheVariants.{Sent}
 use Rattle.endpoint.specs.End.{Holding, latest}
 use Rattle.endpoint.specs.Ticking.{AfterTick, differs, full, fixes, new_number, new_state, top_state, assumed, update, sent_count, ticked}
 use Rattle.endpoint.specs.Chain.{Chained, sent_state}
@@ -35,7 +34,7 @@ module _ (K L : Kind) (x : Holding K L) (p : Past K) (y : Holding L K) (q : Past
 
   -- what x has under a number from the acknowledged to the last is what it fixed
   pub sent_is : (n : ℕ) → x.end.sent.anchor ≤ n → n ≤ x.end.top → sent_state K L x n ≡ state p n
-  sent_is n a b = ap (λ r. elim r [ Held z ↦ z | Missing ↦ K.start ]) (j.stored n a b)
+  sent_is n a b = ap (λ r. elim r [ Some z ↦ z | None ↦ K.start ]) (j.stored n a b)
 
   module _ (fit : length x.received_store ≡ 16) where
     -- its states follow each other

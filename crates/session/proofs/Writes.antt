@@ -4,7 +4,6 @@ use lib.ListN.{length-replicate}
 use Rattle.std.specs.List.{range_with_len}
 use Rattle.std.proofs.lemmas.Bool.{cases_lt, cases_Bool, cond-true, cond-false, cond_both, and_parts, eq-eqb, ne_eqb, eqb-true, both_ways}
 use Rattle.state.specs.Kind.{Kind, Itself}
-use Rattle.window.specs.declared.answers.Lookup.TheVariants.{Held}
 use Rattle.window.specs.Numbers.{lookup}
 use Rattle.packet.specs.declared.datagram.Direction.{Direction}
 use Rattle.packet.specs.Pieces.{piece, piece_count}
@@ -13,7 +12,7 @@ use Rattle.packet.specs.Datagrams.{datagram_bytes}
 use Rattle.packet.specs.Sendings.{parcel, datagrams_of}
 use Rattle.packet.proofs.Layouts.{instruction_length}
 use Rattle.packet.proofs.Sendings.{datagram_read}
-use Rattle.endpoint.specs.declared.fault.TickRefusal.{TickRefusal}
+use Rattle.protocol.specs.declared.fault.TickRefusal.{TickRefusal}
 use Rattle.endpoint.specs.End.{End, Holding, latest}
 use Rattle.endpoint.specs.Ticking as tick
 use Rattle.endpoint.specs.Ticking.{AfterTick, fixes, new_number, new_state, top_state, assumed, assumed_state, update, idled, sent_end, sent_states, sent_count, ticked}
@@ -158,7 +157,7 @@ among_sending : (K L : Kind) (d : List ℕ) (w : Direction) (first s : ℕ) (bs 
 unfolding datagrams_of
 among_sending K L d w first s bs m = let r = among_counted K L d (λ k. datagram_bytes (parcel w first s bs k)) 0 (piece_count bs) m in (r.0, (omega (arith, r.1.0), r.1.1))
 
-held_one : {X : Type 0} (a b : X) → Held a ≡ Held b → a ≡ b
+held_one : {X : Type 0} (a b : X) → Some a ≡ Some b → a ≡ b
 held_one a b e = cc
 
 module _ (K L : Kind) (x : Holding K L) (p : Past K) (y : Holding L K) (q : Past L) (time : ℕ) (out : List ℕ) (itself : Itself K) (j : Joined K L x p y q) where
@@ -255,13 +254,13 @@ module _ (K L : Kind) (x : Holding K L) (p : Past K) (y : Holding L K) (q : Past
     anchor_is : e'.sent.anchor ≡ e.sent.anchor
     anchor_is = sent_anchor K L e ks at_time j.own
 
-    stored' : (n : ℕ) → e.sent.anchor ≤ n → n ≤ new → lookup e'.sent (sent_states K L e ks at_time) n ≡ Held (state p' n)
+    stored' : (n : ℕ) → e.sent.anchor ≤ n → n ≤ new → lookup e'.sent (sent_states K L e ks at_time) n ≡ Some (state p' n)
     stored' n a b =
         ⊎_elim
-        (λ (le : n ≤ e.top). old_states K L e ks at_time j.own n le ∙ j.stored n a le ∙ ap (λ c. Held c) (sym (old_state n le)))
+        (λ (le : n ≤ e.top). old_states K L e ks at_time j.own n le ∙ j.stored n a le ∙ ap (λ c. Some c) (sym (old_state n le)))
         (λ (c : (e.top < n) × (n ≡ new)).
-        subst (λ k. lookup e'.sent (sent_states K L e ks at_time) k ≡ Held (state p' n)) (sym c.1)
-        (new_state_lem K L e ks at_time j.own j.sent_length ∙ ap (λ z. Held z) (new_is_current (omega (arith, c.0, c.1)) ∙ sym (new_fixed_state n c.0 c.1))))
+        subst (λ k. lookup e'.sent (sent_states K L e ks at_time) k ≡ Some (state p' n)) (sym c.1)
+        (new_state_lem K L e ks at_time j.own j.sent_length ∙ ap (λ z. Some z) (new_is_current (omega (arith, c.0, c.1)) ∙ sym (new_fixed_state n c.0 c.1))))
         (either n b)
 
     grows : Grows K L e p e' p'

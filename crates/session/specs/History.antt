@@ -8,13 +8,13 @@ use Rattle.packet.specs.declared.sending.Sent.{Sent as Count}
 use Rattle.packet.specs.Pieces.{Piece}
 use Rattle.packet.specs.Instructions.{read_instruction}
 use Rattle.packet.specs.Datagrams.{Parcel, read_datagram}
-use Rattle.endpoint.specs.declared.answer.Ticked.{Ticked}
-use Rattle.endpoint.specs.declared.answer.Ticked.TheVariants.{Idle, Sent}
-use Rattle.endpoint.specs.declared.answer.Taken.{Taken}
-use Rattle.endpoint.specs.declared.answer.Taken.TheVariants.{Part, Shown, Filled, Again, Baseless}
-use Rattle.endpoint.specs.declared.fault.TickRefusal.{TickRefusal}
-use Rattle.endpoint.specs.declared.fault.TakeFault.{TakeFault}
-use Rattle.endpoint.specs.declared.fault.ChangeRefusal.{ChangeRefusal}
+use Rattle.protocol.specs.declared.answer.Ticked.{Ticked}
+use Rattle.protocol.specs.declared.answer.Ticked.TheVariants.{Idle, Sent}
+use Rattle.protocol.specs.declared.answer.Taken.{Taken}
+use Rattle.protocol.specs.declared.answer.Taken.TheVariants.{Part, Shown, Filled, Again, Baseless}
+use Rattle.protocol.specs.declared.fault.TickRefusal.{TickRefusal}
+use Rattle.protocol.specs.declared.fault.TakeFault.{TakeFault}
+use Rattle.protocol.specs.declared.fault.ChangeRefusal.{ChangeRefusal}
 
 -- the history of an end that sends states of the kind K
 pub record Past (K : Kind) : Type 0 where

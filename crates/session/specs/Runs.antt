@@ -1,8 +1,8 @@
 -- Runs: whatever is called on two ends, in whatever order, and what becomes of them and of their histories.
 use Rattle.std.specs.Prelude.{◌≡◌, ℕ, cond, ◌⊎◌, List, [], ◌∷◌, replicate, Ok, Err, Result, ◌==◌}
 use Rattle.state.specs.Kind.{Kind}
-use Rattle.endpoint.specs.declared.fault.ChangeRefusal.{ChangeRefusal}
-use Rattle.endpoint.specs.declared.fault.TakeFault.{TakeFault}
+use Rattle.protocol.specs.declared.fault.ChangeRefusal.{ChangeRefusal}
+use Rattle.protocol.specs.declared.fault.TakeFault.{TakeFault}
 use Rattle.endpoint.specs.End.{End, Holding, changed}
 use Rattle.endpoint.specs.Ticking.{AfterTick, ticked}
 use Rattle.endpoint.specs.Taking.{AfterTake, taken}

@@ -7,22 +7,19 @@ abbrev pub bytesum : ℕ → ℕ → List ℕ → ℕ
 bytesum s i [] = s
 bytesum s i (b ∷ bs) = bytesum (plus s (half i b)) (i + 1) bs
 
-pub two_steps : (s a b : ℕ) → s < 65536 → a < 256 → b < 256 → plus (plus s (a * 256)) b ≡ plus s (a * 256 + b)
-two_steps s a b hs ha hb = grind (arith, nat_tests)
+-- the two bytes of a word
+word : (s i a b : ℕ) → i % 2 ≡ 0 → s < 65536 → a < 256 → b < 256 → plus (plus s (half i a)) (half (i + 1) b) ≡ plus s (a * 256 + b)
+word s i a b even hs ha hb = grind (arith, nat_tests)
 
-pub plus_lt : (s w : ℕ) → s < 65536 → w < 65536 → plus s w < 65536
-plus_lt s w hs hw = grind (arith, nat_tests)
+below : (s a b : ℕ) → s < 65536 → a < 256 → b < 256 → plus s (a * 256 + b) < 65536
+below s a b hs ha hb = grind (arith, nat_tests)
 
 high : (i b : ℕ) → i % 2 ≡ 0 → half i b ≡ b * 256
 high i b e = grind (arith, nat_tests)
-
-low : (i b : ℕ) → i % 2 ≡ 0 → half (i + 1) b ≡ b
-low i b e = grind (arith, nat_tests)
 
 pub pairs : (s i : ℕ) (bs : List ℕ) → i % 2 ≡ 0 → s < 65536 → ((k : ℕ) → get_or bs k 0 < 256) → bytesum s i bs ≡ summed s (words bs)
 pairs s i [] even small fit = refl
 pairs s i (a ∷ []) even small fit = ap (plus s) (high i a even)
 pairs s i (a ∷ b ∷ rest) even small fit =
-    let step : plus (plus s (half i a)) (half (i + 1) b) ≡ plus s (a * 256 + b) = ap (λ w. plus (plus s w) (half (i + 1) b)) (high i a even) ∙ ap (plus (plus s (a * 256))) (low i b even) ∙ two_steps s a b small (fit 0) (fit 1) in
-    let small' : plus s (a * 256 + b) < 65536 = plus_lt s (a * 256 + b) small (omega (arith, fit 0, fit 1)) in
-    ap (λ t. bytesum t (i + 1 + 1) rest) step ∙ pairs (plus s (a * 256 + b)) (i + 1 + 1) rest (omega arith) small' (λ k. fit (suc (suc k)))
+    ap (λ t. bytesum t (i + 1 + 1) rest) (word s i a b even small (fit 0) (fit 1))
+    ∙ pairs (plus s (a * 256 + b)) (i + 1 + 1) rest (omega arith) (below s a b small (fit 0) (fit 1)) (λ k. fit (suc (suc k)))

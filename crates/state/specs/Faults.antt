@@ -1,5 +1,5 @@
 -- The numbers and the values of each refusal of a diff or an edit.
-use Rattle.std.specs.Prelude.{ℕ, ◌+◌, min}
+use Rattle.std.specs.Prelude.{ℕ, ◌+◌, min, List, ◌++◌, codes, decimal}
 use Rattle.state.specs.declared.fault.StateFault.{StateFault}
 use Rattle.state.specs.declared.fault.StateFault.TheVariants.{BadCheck, BadRun, BadEntry, TooManyEntries}
 use Rattle.state.specs.declared.fault.DiffRefusal.{DiffRefusal}
@@ -32,10 +32,18 @@ moved_by by (BadRun at) = BadRun (later by at)
 moved_by by (BadEntry at) = BadEntry (later by at)
 moved_by by (TooManyEntries at) = TooManyEntries (later by at)
 
+-- the text of a fault: its cause's number and its place
+abbrev pub fault_words : StateFault → List ℕ
+fault_words f = codes "cause " ++ (decimal (cause_of f) ++ (codes " at " ++ decimal (place_of f)))
+
 -- the number of a diff's refusal: the target doesn't follow the base; the diff is too long
 abbrev pub diff_refusal_of : DiffRefusal → ℕ
 diff_refusal_of NotFollowing = 7
 diff_refusal_of TooLong = 9
+
+-- the word of a diff's refusal: `no` and its number
+abbrev pub diff_refusal_word : DiffRefusal → List ℕ
+diff_refusal_word f = codes "no" ++ decimal (diff_refusal_of f)
 
 -- the number of an edit's refusal: a value outside its field; no room for one entry more
 abbrev pub edit_refusal_of : EditRefusal → ℕ

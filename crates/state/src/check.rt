@@ -1,6 +1,5 @@
 // Check: a layer over any kind of state that ends each diff with its checksum.
 ghost use Rattle.std.specs.Prelude.{◌≡◌, ◌+◌, ◌≤◌, ◌++◌, length, take, drop};
-ghost use Rattle.std.specs.Str.{bytes_eq};
 ghost use Rattle.state.specs.Check.{check_kind, sealed};
 ghost use Rattle.state.specs.Checked.{check_reaches};
 ghost use Rattle.std.proofs.Common.{rules};
@@ -35,17 +34,8 @@ fn put_sum(out: &mut [u8], n: usize)
     requires { n + 2 ≤ length out.old }
     ensures { out.new ≡ sealed (take n out.old) ++ drop (n + 2) out.old }
 {
-    let sum = internet_checksum(&out[0..n]).to_be_bytes();
-    out[n..n + 2].copy_from_slice(&sum);
-}
-
-// Whether the last two bytes are the checksum of the `n` before them.
-fn ends_with_sum(d: &[u8], n: usize) -> bool
-    requires { n + 2 ≡ length d.now }
-    ensures { result ≡ bytes_eq d.now (sealed (take n d.now)) }
-{
-    let sum = internet_checksum(&d[0..n]).to_be_bytes();
-    d[n] == sum[0] && d[n + 1] == sum[1]
+    let (inner, rest) = out.split_at_mut(n);
+    rest[..2].copy_from_slice(&internet_checksum(inner).to_be_bytes());
 }
 
 impl<K: State> State for Check<K> {
@@ -77,8 +67,7 @@ impl<K: State> State for Check<K> {
         if !self.follows(base) {
             return 0;
         }
-        let n = self.inner.size(&base.inner);
-        if n >= 65533 { 65535 } else { n + 2 }
+        (self.inner.size(&base.inner) + 2).min(65535)
     }
 
     fn diff(&self, base: &Check<K>, out: &mut [u8]) -> Result<usize, DiffRefusal> {
@@ -89,19 +78,19 @@ impl<K: State> State for Check<K> {
         if n > 65532 || out.len() < n + 2 {
             return Err(DiffRefusal::TooLong);
         }
-        let _ = self.inner.diff(&base.inner, out);
+        self.inner.diff(&base.inner, out)?;
         put_sum(out, n);
         Ok(n + 2)
     }
 
+    #[tactic(auto, using(crate::proofs::Sealing::seal_tested))]
     fn apply(&mut self, d: &[u8]) -> Result<(), StateFault> {
-        if d.len() < 2 {
+        let Some((inner, sum)) = d.split_last_chunk::<2>() else {
             return Err(StateFault::BadCheck { at: 0 });
+        };
+        if *sum != internet_checksum(inner).to_be_bytes() {
+            return Err(StateFault::BadCheck { at: inner.len() });
         }
-        let n = d.len() - 2;
-        if !ends_with_sum(d, n) {
-            return Err(StateFault::BadCheck { at: n });
-        }
-        self.inner.apply(&d[0..n])
+        self.inner.apply(inner)
     }
 }

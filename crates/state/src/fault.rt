@@ -1,6 +1,9 @@
 // Why a diff is not written, why one can't be applied, and why a state can't be edited.
-ghost use Rattle.std.specs.Prelude.{◌≡◌};
-ghost use Rattle.state.specs.Faults.{cause_of, place_of, moved_by, diff_refusal_of, edit_refusal_of};
+ghost use Rattle.std.specs.Prelude.{◌≡◌, Some};
+ghost use Rattle.state.specs.Faults.{cause_of, place_of, moved_by, fault_words, diff_refusal_of, diff_refusal_word, edit_refusal_of};
+
+use std::fmt;
+use std::fmt::Write;
 
 // Why a diff can't be applied, with the place in the outermost diff at which the bad part begins.
 #[derive(Clone, Copy, PartialEq, Eq, Debug)]
@@ -29,10 +32,10 @@ impl StateFault {
         ensures { result ≡ place_of self }
     {
         match self {
-            StateFault::BadCheck { at } => at,
-            StateFault::BadRun { at } => at,
-            StateFault::BadEntry { at } => at,
-            StateFault::TooManyEntries { at } => at,
+            StateFault::BadCheck { at }
+            | StateFault::BadRun { at }
+            | StateFault::BadEntry { at }
+            | StateFault::TooManyEntries { at } => at,
         }
     }
 
@@ -41,6 +44,7 @@ impl StateFault {
         ensures { result ≡ moved_by by self }
     {
         let at = self.place().saturating_add(by);
+        // Stays: a write through `at` of an or-pattern on `&mut self` was tried, and the proof then knows nothing of what it leaves in `self`.
         match self {
             StateFault::BadCheck { .. } => StateFault::BadCheck { at },
             StateFault::BadRun { .. } => StateFault::BadRun { at },
@@ -50,11 +54,19 @@ impl StateFault {
     }
 }
 
+impl fmt::Display for StateFault {
+    ghost output = { λ fault. Some (fault_words fault) };
+
+    fn fmt<W: fmt::Write>(&self, f: &mut fmt::Formatter<W>) -> fmt::Result {
+        write!(f, "cause {} at {}", self.cause(), self.place())
+    }
+}
+
 // Why a diff is not written.
 #[derive(Clone, Copy, PartialEq, Eq, Debug)]
 pub enum DiffRefusal {
-    NotFollowing,
-    TooLong,
+    NotFollowing = 7,
+    TooLong = 9,
 }
 
 impl DiffRefusal {
@@ -62,10 +74,15 @@ impl DiffRefusal {
     pub fn number(self) -> u8
         ensures { result ≡ diff_refusal_of self }
     {
-        match self {
-            DiffRefusal::NotFollowing => 7,
-            DiffRefusal::TooLong => 9,
-        }
+        self as u8
+    }
+}
+
+impl fmt::Display for DiffRefusal {
+    ghost output = { λ refusal. Some (diff_refusal_word refusal) };
+
+    fn fmt<W: fmt::Write>(&self, f: &mut fmt::Formatter<W>) -> fmt::Result {
+        write!(f, "no{}", self.number())
     }
 }
 
@@ -78,12 +95,12 @@ pub enum EditRefusal {
 
 impl EditRefusal {
     // The number of the refusal.
+    // Stays: the two cases have one number, which no discriminants can say.
     pub fn number(self) -> u8
         ensures { result ≡ edit_refusal_of self }
     {
         match self {
-            EditRefusal::OutsideField => 6,
-            EditRefusal::Full => 6,
+            EditRefusal::OutsideField | EditRefusal::Full => 6,
         }
     }
 }

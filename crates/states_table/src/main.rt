@@ -2,60 +2,56 @@
 #![tactic(auto)]
 
 use journal::journal::Journal;
-use screen::screen::Screen;
+use screen::screen::{Cursor, Screen};
 use state::check::Check;
 use state::checksum::internet_checksum;
 use state::state::State;
 use std::alloc::Global;
 use std::io;
 
-// Applies bytes to a fresh state, and prints whether they were taken, and else the cause and the place.
-fn applied<K: State>(rt: &impl Print, diff: &[u8]) -> io::Result<Option<K>> {
-    let mut state = K::start();
-    match state.apply(diff) {
-        Ok(()) => Ok(Some(state)),
-        Err(fault) => {
-            let cause = fault.cause();
-            let place = fault.place();
-            println!(rt; "cause {cause} at {place}")?;
-            Ok(None)
-        }
+// A kind of state whose values the table shows.
+trait Show: State {
+    fn show<P: Print>(&self, rt: &P) -> io::Result<()>;
+}
+
+impl Show for Journal {
+    fn show<P: Print>(&self, rt: &P) -> io::Result<()> {
+        let count = self.entries().len();
+        println!(rt; "{count} entries")
     }
 }
 
-fn show_journal(rt: &impl Print, journal: &Journal) -> io::Result<()> {
-    let count = journal.entries().len();
-    println!(rt; "{count} entries")
+impl Show for Screen {
+    fn show<P: Print>(&self, rt: &P) -> io::Result<()> {
+        let Cursor { row, column } = self.cursor();
+        let [first, second, ..] = self.cells();
+        println!(rt; "cursor {row} {column}, first cells {first} {second}")
+    }
 }
 
-fn show_screen(rt: &impl Print, screen: &Screen) -> io::Result<()> {
-    let cursor = screen.cursor();
-    let row = cursor.row;
-    let column = cursor.column;
-    let first = screen.cells()[0];
-    let second = screen.cells()[1];
-    println!(rt; "cursor {row} {column}, first cells {first} {second}")
+impl<K: Show> Show for Check<K> {
+    fn show<P: Print>(&self, rt: &P) -> io::Result<()> {
+        self.inner().show(rt)
+    }
+}
+
+// Applies bytes to a fresh state, and shows it, or why they were refused.
+fn apply<K: Show>(rt: &impl Print, diff: &[u8]) -> io::Result<()> {
+    let mut state = K::start();
+    match state.apply(diff) {
+        Ok(()) => state.show(rt),
+        Err(fault) => println!(rt; "{fault}"),
+    }
 }
 
 // Runs one row of the table.
 fn run(rt: &impl Print, kind: &str, diff: &[u8]) -> io::Result<()> {
+    // Stays: the word is what a row of the table says, and reading it is this match.
     match kind {
-        "journal" => match applied::<Journal>(rt, diff)? {
-            Some(journal) => show_journal(rt, &journal),
-            None => Ok(()),
-        },
-        "screen" => match applied::<Screen>(rt, diff)? {
-            Some(screen) => show_screen(rt, &screen),
-            None => Ok(()),
-        },
-        "checked-journal" => match applied::<Check<Journal>>(rt, diff)? {
-            Some(checked) => show_journal(rt, checked.inner()),
-            None => Ok(()),
-        },
-        "checked-screen" => match applied::<Check<Screen>>(rt, diff)? {
-            Some(checked) => show_screen(rt, checked.inner()),
-            None => Ok(()),
-        },
+        "journal" => apply::<Journal>(rt, diff),
+        "screen" => apply::<Screen>(rt, diff),
+        "checked-journal" => apply::<Check<Journal>>(rt, diff),
+        "checked-screen" => apply::<Check<Screen>>(rt, diff),
         "sum" => {
             let sum = internet_checksum(diff);
             println!(rt; "sum {sum:04X}")
@@ -66,19 +62,13 @@ fn run(rt: &impl Print, kind: &str, diff: &[u8]) -> io::Result<()> {
 
 // A row is a kind and bytes; what stands behind a `#` is a remark.
 fn row(rt: &impl Print, heap: Global, line: &str) -> io::Result<()> {
-    let mut words = line.split(' ');
-    let kind = words.next().unwrap_or("");
-    let mut diff = Vec::new(heap);
-    for word in words {
-        match hexadecimal::byte(word) {
-            Some(b) => diff.push(b)?,
-            None => break,
-        }
-    }
+    let (kind, rest) = line.split_once(' ').unwrap_or((line, ""));
+    let diff = hexadecimal::bytes(heap, rest)?;
     print!(rt; "{kind}: ")?;
     run(rt, kind, diff.as_slice())
 }
 
+// Stays: each table is a program, and has a `main` of its own.
 fn main(rt: HostRuntime) -> io::Result<()> {
     for line in rt.lines(rt.alloc()) {
         row(&rt, rt.alloc(), line?.as_str())?;

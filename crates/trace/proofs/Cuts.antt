@@ -1,9 +1,11 @@
 -- Lemmas on the lines of a text.
-use Rattle.std.proofs.Common.{◌≡◌, ℕ, suc, ◌+◌, ◌-◌, ◌<◌, ◌≤◌, min, eqb, ltb, ◌⊎◌, List, [], ◌∷◌, ◌++◌, length, take, drop, sym, refl, ap, ◌∙◌, subst, ⊎_elim, one-add, arith}
-use Rattle.std.specs.List.{AllByRecursion}
-use Rattle.std.proofs.lemmas.Bool.{cases_eq, cases_lt, cond_both, cond-true, eq-eqb, lt-ltb, ne_eqb}
-use Rattle.std.proofs.lemmas.List.{drop-drop, drop_all, length-drop, take_rest}
-use Rattle.trace.specs.Lines.{onto, lines_of, joined, lacking, Unbroken, Rejoins, line_length, LastAt, LineAt}
+use Rattle.std.proofs.Common.{◌≡◌, ℕ, suc, ◌+◌, ◌-◌, ◌<◌, ◌≤◌, min, not, eqb, ltb, List, [], ◌∷◌, ◌++◌, length, take, drop, unwrap_or, sym, refl, ap, ◌∙◌, subst, ⊎_elim, one-add, arith}
+use Rattle.std.specs.List.{AllByRecursion, position}
+use Rattle.std.proofs.lemmas.Bool.{cases_eq, cases_lt, cond_both, cond-true, eq-eqb, le-ltb, lt-ltb, ne_eqb}
+use Rattle.std.proofs.lemmas.List.Sums.{prefix_len-le-length}
+use Rattle.std.proofs.Math.Nat.{min_comm}
+use Rattle.std.proofs.lemmas.List.{drop-drop, drop_all, length-drop, length-take-le, take_rest}
+use Rattle.trace.specs.Lines.{onto, lines_of, joined, lacking, Unbroken, Rejoins, line_length, LineAt}
 
 -- a byte that ends a line, and one that doesn't
 lines_end : (b : ℕ) (text : List ℕ) → b ≡ 10 → lines_of (b ∷ text) ≡ [] ∷ lines_of text
@@ -38,6 +40,14 @@ lines_first (b ∷ (next ∷ text)) some =
     (λ ne. subst (First (b ∷ (next ∷ text))) (sym (length_on b (next ∷ text) ne ∙ one-add (line_length (next ∷ text)))) (first_on b (next ∷ text) (line_length (next ∷ text)) ne (lines_first (next ∷ text) (omega arith))))
     (cases_eq b 10)
 
+-- where the first 0A stands, or the text's length
+pub first_or_all : (text : List ℕ) → unwrap_or (position (λ b. eqb b 10) text) (length text) ≡ line_length text
+first_or_all text =
+    ⊎_elim
+    (λ (inside : line_length text < length text). rw (lt-ltb (line_length text) (length text) inside))
+    (λ past. rw (le-ltb (line_length text) (length text) past) (omega (arith, prefix_len-le-length (λ b. not (eqb b 10)) text)))
+    (cases_lt (line_length text) (length text))
+
 -- past the end of a text is its end
 drop_min : (n : ℕ) (text : List ℕ) → drop (min n (length text)) text ≡ drop n text
 drop_min n text =
@@ -55,21 +65,17 @@ line_at text at inside =
     lines_first rest (omega (arith, length-drop at text))
     ∙ ap (λ s. take k rest ∷ lines_of s) (drop-drop (suc k) at text ∙ ap (λ n. drop n text) place ∙ sym (drop_min (at + k + 1) text))
 
--- what the code finds: k is the length of the line, and a step over the 0A is made if there is one
-pub found : (text : List ℕ) (at k next : ℕ) → at < length text → k ≡ line_length (take (length text - at) (drop at text)) → k ≤ length (take (length text - at) (drop at text)) → ((at + k < length text) × (next ≡ at + k + 1)) ⊎ ((length text ≤ at + k) × (next ≡ at + k)) → LineAt text at (take (k - 0) (take (length text - at) (drop at text))) next
-found text at k next inside e bound way =
+-- what the code finds, where k is the length of the line
+pub found : (text : List ℕ) (at k next : ℕ) → at < length text → k ≡ line_length (take (length text - at) (drop at text)) → k ≤ length (take (length text - at) (drop at text)) → next ≡ min (length text) (at + length (take k (take (length text - at) (drop at text))) + 1) → LineAt text at (take k (take (length text - at) (drop at text))) next
+found text at k next inside e bound is =
     let rest = take_rest text at in
     let len : k ≡ line_length (drop at text) = e ∙ ap line_length rest in
-    let room : at + k ≤ length text = omega (arith, ap length rest, length-drop at text) in
-    let place : next ≡ min (at + line_length (drop at text) + 1) (length text) = ⊎_elim (λ h. omega arith) (λ h. omega arith) way in
-    let line : take (k - 0) (take (length text - at) (drop at text)) ≡ take (line_length (drop at text)) (drop at text) = ap (λ n. take n (take (length text - at) (drop at text))) (omega arith) ∙ ap (take (line_length (drop at text))) rest in (
+    let place : next ≡ min (at + line_length (drop at text) + 1) (length text) = is ∙ ap (λ n. min (length text) (at + n + 1)) (length-take-le k (take (length text - at) (drop at text)) bound ∙ len) ∙ min_comm (length text) (at + line_length (drop at text) + 1) in
+    let line : take k (take (length text - at) (drop at text)) ≡ take (line_length (drop at text)) (drop at text) = ap (λ n. take n (take (length text - at) (drop at text))) len ∙ ap (take (line_length (drop at text))) rest in (
       inside,
       place ∙ sym (cond-true (ltb at (length text)) _ at (lt-ltb at (length text) inside)),
-      line_at text at inside ∙ ap (λ l. l ∷ lines_of (drop (min (at + line_length (drop at text) + 1) (length text)) text)) (sym line) ∙ ap (λ n. take (k - 0) (take (length text - at) (drop at text)) ∷ lines_of (drop n text)) (sym place),
+      line_at text at inside ∙ ap (λ l. l ∷ lines_of (drop (min (at + line_length (drop at text) + 1) (length text)) text)) (sym line) ∙ ap (λ n. take k (take (length text - at) (drop at text)) ∷ lines_of (drop n text)) (sym place),
     )
-
-pub none_at : (text : List ℕ) (at : ℕ) → length text ≤ at → LastAt text at
-none_at text at past = (past, ap lines_of (drop_all at text past))
 
 -- the lines of a text have no 0A
 onto_unbroken : (b : ℕ) (lines : List (List ℕ)) → (b ≡ 10 → ⊥) → AllByRecursion Unbroken lines → AllByRecursion Unbroken (onto b lines)

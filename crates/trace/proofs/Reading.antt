@@ -91,11 +91,7 @@ take_back : (letter a b c datagram : ℕ) → event_of letter a b c ≡ Some (Ta
 take_back letter a b c datagram e = (grind (arith, nat_tests), grind (arith, nat_tests), grind (arith, nat_tests), grind (arith, nat_tests))
 
 six_same : (letter letter' a a' b b' c c' : ℕ) → (letter ≡ letter') × (a ≡ a') × (b ≡ b') × (c ≡ c') → (at : ℕ) (end : List ℕ) → six_values at end (letter ∷ []) a b c ≡ six_values at end (letter' ∷ []) a' b' c'
-six_same letter letter' a a' b b' c c' h at end =
-    ap (λ l. six_values at end (l ∷ []) a b c) h.0
-    ∙ ap (λ n. six_values at end (letter' ∷ []) n b c) h.1
-    ∙ ap (λ n. six_values at end (letter' ∷ []) a' n c) h.2
-    ∙ ap (λ n. six_values at end (letter' ∷ []) a' b' n) h.3
+six_same letter letter' a a' b b' c c' h at end = cc
 
 event_back : (letter a b c at : ℕ) (end : List ℕ) (event : Event) → event_of letter a b c ≡ Some event → Fits a → Fits b → Fits c → EventFits event × (six_values at end (letter ∷ []) a b c ≡ written_event at end event)
 event_back letter a b c at end (Key key) e fa fb fc =

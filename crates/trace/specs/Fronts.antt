@@ -35,6 +35,11 @@ abbrev pub byte_front : List ℕ → Option (ℕ × List ℕ)
 byte_front [] = None
 byte_front (b ∷ rest) = Some (b, rest)
 
+-- a space at the front
+abbrev pub space_front : List ℕ → Option (Unit {0} × List ℕ)
+space_front [] = None
+space_front (b ∷ rest) = cond (b == 32) (Some (tt, rest)) None
+
 -- the byte behind a space at the front
 abbrev pub letter_front : List ℕ → Option (ℕ × List ℕ)
 letter_front [] = None

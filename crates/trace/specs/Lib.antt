@@ -4,3 +4,4 @@ pub mod Lines
 pub mod Listing
 pub mod Reading
 pub mod Refusals
+pub mod Words

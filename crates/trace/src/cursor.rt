@@ -1,6 +1,6 @@
 // A cursor over a line, which reads what stands at the front and goes on behind it.
 ghost use Rattle.std.specs.Prelude.{◌≡◌, ◌+◌, ◌<◌, ◌≤◌, length, None};
-ghost use Rattle.trace.specs.Fronts.{answered, byte_front, digit_front, letter_front, number_front, value_front};
+ghost use Rattle.trace.specs.Fronts.{answered, byte_front, digit_front, letter_front, number_front, space_front, value_front};
 
 #[derive(Drop)]
 pub(crate) struct Cursor<'a> {
@@ -13,13 +13,10 @@ impl Cursor<'_> {
         ensures reads { answered result self.new.rest.now ≡ digit_front self.old.rest.now }
         ensures stays { result ≡ None → self.new ≡ self.old }
     {
-        match self.rest {
-            [b, rest @ ..] if *b >= b'0' && *b <= b'9' => {
-                self.rest = rest;
-                Some(u32::from(*b - b'0'))
-            }
-            _ => None,
-        }
+        let (b, rest) = self.rest.split_first()?;
+        let digit = char::from(*b).to_digit(10)?;
+        self.rest = rest;
+        Some(digit)
     }
 
     // The number at the front: decimal, of 32 bits, and with no leading zero.
@@ -30,6 +27,7 @@ impl Cursor<'_> {
         if value == 0 {
             return Some(0);
         }
+        // Stays: nothing is counted; an iterator of digits would have to give back the byte at which it stops.
         while let Some(d) = self.digit() {
             value = value.checked_mul(10)?.checked_add(d)?;
         }
@@ -40,20 +38,21 @@ impl Cursor<'_> {
     pub(crate) fn byte(&mut self) -> Option<u8>
         ensures { answered result self.new.rest.now ≡ byte_front self.old.rest.now }
     {
-        let [b, rest @ ..] = self.rest else {
-            return None;
-        };
-        self.rest = rest;
-        Some(*b)
+        self.rest.split_off_first().copied()
+    }
+
+    // A space at the front.
+    fn space(&mut self) -> Option<()>
+        ensures { answered result self.new.rest.now ≡ space_front self.old.rest.now }
+    {
+        (self.byte()? == b' ').then_some(())
     }
 
     // The letter behind a space.
     pub(crate) fn letter(&mut self) -> Option<u8>
         ensures { answered result self.new.rest.now ≡ letter_front self.old.rest.now }
     {
-        if self.byte()? != b' ' {
-            return None;
-        }
+        self.space()?;
         self.byte()
     }
 
@@ -61,9 +60,7 @@ impl Cursor<'_> {
     pub(crate) fn value(&mut self) -> Option<u32>
         ensures { answered result self.new.rest.now ≡ value_front self.old.rest.now }
     {
-        if self.byte()? != b' ' {
-            return None;
-        }
+        self.space()?;
         self.number()
     }
 }

@@ -19,12 +19,7 @@ fn line_len(text: &[u8]) -> usize
     ensures value { result ≡ line_length text.now }
     ensures bound { result ≤ length text.now }
 {
-    for (i, b) in text.iter().enumerate() {
-        if *b == b'\n' {
-            return i;
-        }
-    }
-    text.len()
+    text.iter().position(|b| *b == b'\n').unwrap_or(text.len())
 }
 
 // The line at a place, without its 0A, and the place behind it.
@@ -35,10 +30,9 @@ fn line_at(text: &[u8], at: usize) -> Option<(&[u8], usize)>
         return None;
     }
     let rest = &text[at..];
-    let len = line_len(rest);
-    let end = at + len;
-    let next = if end < text.len() { end + 1 } else { end };
-    Some((&rest[0..len], next))
+    let line = &rest[..line_len(rest)];
+    let next = text.len().min(at + line.len() + 1);
+    Some((line, next))
 }
 
 // Reads the next line of a trace, without its 0A, and moves the place and the count behind it.

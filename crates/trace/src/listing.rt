@@ -7,7 +7,7 @@ use std::fmt;
 use std::fmt::Write;
 
 // What came of a line.
-#[derive(Clone, Copy)]
+#[derive(Clone, Copy, PartialEq, Eq, Debug)]
 pub enum Outcome {
     Done,
     Sent,
@@ -17,7 +17,7 @@ pub enum Outcome {
     Again,
     Baseless,
     Part,
-    // by the number of the refusal
+    // Stays: the listing prints whatever number it is given, and a narrower type would ask more of its callers.
     Refused(u8),
 }
 
@@ -40,7 +40,7 @@ impl fmt::Display for Outcome {
 }
 
 // The values of a line, `shown` being the newest number and `sum` the checksum of what is shown.
-#[derive(Clone, Copy)]
+#[derive(Clone, Copy, PartialEq, Eq, Debug)]
 pub struct ListingLine {
     pub line: u64,
     pub result: Outcome,
@@ -62,18 +62,11 @@ fn line_text(heap: Global, line: ListingLine) -> Result<String, AllocError>
     format!(in heap; "{line} {result} {n} {shown} {sum}\n")
 }
 
-// Appends a text to a listing, or leaves it where there is no memory.
-fn push_text(listing: &mut String, text: &str) -> Result<(), AllocError>
-    ensures { Appended result (string_bytes listing.old) text.now (string_bytes listing.new) }
-{
-    listing.push_str(text)
-}
-
 // Appends the names to a listing, or leaves it where there is no memory.
 pub fn push_names(listing: &mut String) -> Result<(), AllocError>
     ensures { Appended result (string_bytes listing.old) listing_names (string_bytes listing.new) }
 {
-    push_text(listing, "line result n shown sum\n")
+    listing.push_str("line result n shown sum\n")
 }
 
 // Appends a line to a listing, or leaves it where there is no memory.
@@ -81,5 +74,5 @@ pub fn push_line(listing: &mut String, heap: Global, line: ListingLine) -> Resul
     ensures { Appended result (string_bytes listing.old) (listing_line line) (string_bytes listing.new) }
 {
     let text = line_text(heap, line)?;
-    push_text(listing, text.as_str())
+    listing.push_str(text.as_str())
 }

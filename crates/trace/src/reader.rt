@@ -9,6 +9,7 @@ use crate::line::{End, Event, Line, TraceFault};
 // The most bytes that a line may have.
 const LONGEST_LINE: usize = 80;
 
+// Stays: `TryFrom` would need an error of its own, where a line has one refusal for whatever is wrong with it.
 fn end_of(letter: u8) -> Option<End>
     ensures { result ≡ end_of letter }
 {
@@ -20,6 +21,7 @@ fn end_of(letter: u8) -> Option<End>
 }
 
 // The event of a letter, which alone settles the values that have to be 0.
+// Stays: the letter decides together with three values, and its match on characters is a rule of the project.
 fn event_of(letter: u8, a: u32, b: u32, c: u32) -> Option<Event>
     ensures { result ≡ event_of letter a b c }
 {
@@ -51,7 +53,7 @@ fn six_of(text: &[u8]) -> Option<Line>
     let a = cursor.value()?;
     let b = cursor.value()?;
     let c = cursor.value()?;
-    if cursor.rest.len() > 0 {
+    if !cursor.rest.is_empty() {
         return None;
     }
     let end = end_of(end)?;
@@ -69,27 +71,18 @@ fn line_of(text: &[u8]) -> Option<Line>
     six_of(text)
 }
 
-fn same_bytes(a: &[u8], b: &[u8]) -> bool
-    ensures { Decides result (a.now ≡ b.now) }
-{
-    a == b
-}
-
 // Whether a line is the one that a trace begins with.
 pub fn is_names_line(text: &[u8]) -> bool
     ensures { Decides result (text.now ≡ names_line) }
 {
-    same_bytes(text, b"at end event a b c")
+    text == b"at end event a b c".as_slice()
 }
 
 // Reads a value line, given without the 0A that ends it.
 pub fn read_line(text: &[u8]) -> Result<Line, TraceFault>
     ensures { Reads text.now result }
 {
-    match line_of(text) {
-        Some(line) => Ok(line),
-        None => Err(TraceFault::Malformed),
-    }
+    line_of(text).ok_or(TraceFault::Malformed)
 }
 
 // That the limit never decides alone: six values take at most 47 bytes.

@@ -1,22 +1,24 @@
 // What the lines of a trace make of a journal and a screen.
 ghost use Rattle.std.specs.Prelude.{◌≡◌};
-ghost use Rattle.trip.specs.Trips.{refusal_number, journalled, drawn_on, is_own, Entered};
+ghost use Rattle.trip.specs.declared.entering.Refusal.TheVariants.{Edit};
+ghost use Rattle.trip.specs.Trips.{refusal_number, is_own, Entered};
 
 use journal::journal::Journal;
 use screen::screen::Screen;
 use state::fault::EditRefusal;
 use state::state::State;
+use std::fmt;
 use trace::line::{End, Event, Line};
 
 // What the two ends share.
 #[derive(Clone, Copy)]
 pub(crate) struct Trip {
-    journal: Journal,
-    screen: Screen,
+    pub(crate) journal: Journal,
+    pub(crate) screen: Screen,
 }
 
 // Why a line is not taken in.
-#[derive(Clone, Copy)]
+#[derive(Clone, Copy, PartialEq, Eq, Debug)]
 pub(crate) enum Refusal {
     WrongEnd,
     LateTime,
@@ -36,6 +38,25 @@ impl Refusal {
     }
 }
 
+impl From<EditRefusal> for Refusal {
+    ghost from_gives = { λ f r. r ≡ Edit f };
+
+    fn from(refusal: EditRefusal) -> Refusal {
+        Refusal::Edit(refusal)
+    }
+}
+
+impl fmt::Display for Refusal {
+    fn fmt<W: fmt::Write>(&self, f: &mut fmt::Formatter<W>) -> fmt::Result {
+        let why = match self {
+            Refusal::WrongEnd => "not an event of this end",
+            Refusal::LateTime => "a time above 4000000000",
+            Refusal::Edit(_) => "a value outside its field, or the journal is full",
+        };
+        write!(f, "{why}: no{}", self.number())
+    }
+}
+
 impl Trip {
     // A trip with nothing in it.
     pub(crate) fn start() -> Trip {
@@ -44,56 +65,16 @@ impl Trip {
             screen: <Screen as State>::start(),
         }
     }
-
-    pub(crate) fn journal(&self) -> &Journal
-        ensures { result.now ≡ self.now.journal }
-    {
-        &self.journal
-    }
-
-    pub(crate) fn screen(&self) -> &Screen
-        ensures { result.now ≡ self.now.screen }
-    {
-        &self.screen
-    }
-}
-
-// The trip with the journal that an edit gave.
-fn with_journal(trip: &Trip, answer: Result<Journal, EditRefusal>) -> Result<Trip, Refusal>
-    ensures { result ≡ journalled trip.now answer }
-{
-    match answer {
-        Ok(journal) => Ok(Trip {
-            journal,
-            screen: trip.screen,
-        }),
-        Err(refusal) => Err(Refusal::Edit(refusal)),
-    }
-}
-
-// The trip with the screen that an edit gave.
-fn with_screen(trip: &Trip, answer: Result<Screen, EditRefusal>) -> Result<Trip, Refusal>
-    ensures { result ≡ drawn_on trip.now answer }
-{
-    match answer {
-        Ok(screen) => Ok(Trip {
-            journal: trip.journal,
-            screen,
-        }),
-        Err(refusal) => Err(Refusal::Edit(refusal)),
-    }
 }
 
 // Whether an event is one of this end's: keys and taps are the reader's, positions the depot's.
 fn belongs(end: End, event: Event) -> bool
     ensures { result ≡ is_own end event }
 {
-    match (end, event) {
-        (End::Depot, Event::Key { .. }) => false,
-        (End::Depot, Event::Tap { .. }) => false,
-        (End::Reader, Event::Position { .. }) => false,
-        _ => true,
-    }
+    !matches!(
+        (end, event),
+        (End::Depot, Event::Key { .. } | Event::Tap { .. }) | (End::Reader, Event::Position { .. })
+    )
 }
 
 // The trip with an event taken into its journal or onto its screen; ticks and takes are passed over.
@@ -107,17 +88,25 @@ pub(crate) fn entered(trip: &Trip, line: Line) -> Result<Trip, Refusal>
         return Err(Refusal::LateTime);
     }
     match line.event {
-        Event::Key { key } => with_journal(trip, trip.journal.with_key(key)),
+        Event::Key { key } => Ok(Trip {
+            journal: trip.journal.with_key(key)?,
+            ..*trip
+        }),
         Event::Tap {
             card,
             fare,
             balance,
-        } => with_journal(trip, trip.journal.with_tap(card, fare, balance)),
+        } => Ok(Trip {
+            journal: trip.journal.with_tap(card, fare, balance)?,
+            ..*trip
+        }),
         Event::Position {
             position,
             character,
-        } => with_screen(trip, trip.screen.with_character(position, character)),
-        Event::Tick => Ok(*trip),
-        Event::Take { .. } => Ok(*trip),
+        } => Ok(Trip {
+            screen: trip.screen.with_character(position, character)?,
+            ..*trip
+        }),
+        Event::Tick | Event::Take { .. } => Ok(*trip),
     }
 }

@@ -5,22 +5,13 @@ mod entering;
 mod report;
 mod sending;
 
-use entering::{Refusal, Trip, entered};
+use entering::{Trip, entered};
 use packet::datagram::Direction;
 use state::state::State;
 use std::io;
 use std::io::Read;
 use trace::lines::{LineCount, ReadingPlace, next_line};
 use trace::reader::{is_names_line, read_line};
-
-// What a refusal says to whoever reads the messages.
-fn reason(refusal: Refusal) -> &'static str {
-    match refusal {
-        Refusal::WrongEnd => "not an event of this end",
-        Refusal::LateTime => "a time above 4000000000",
-        Refusal::Edit(_) => "a value outside its field, or the journal is full",
-    }
-}
 
 // Takes one line in, or says with its number what is wrong with it.
 fn take_line(rt: &impl Print, trip: &mut Trip, number: u64, text: &[u8]) -> io::Result<()> {
@@ -33,16 +24,9 @@ fn take_line(rt: &impl Print, trip: &mut Trip, number: u64, text: &[u8]) -> io::
                 *trip = next;
                 Ok(())
             }
-            Err(refusal) => {
-                let why = reason(refusal);
-                let code = refusal.number();
-                println!(rt; "line {number}: {why}: no{code}")
-            }
+            Err(refusal) => println!(rt; "line {number}: {refusal}"),
         },
-        Err(fault) => {
-            let code = fault.number();
-            println!(rt; "line {number}: not a line of a trace: no{code}")
-        }
+        Err(fault) => println!(rt; "line {number}: not a line of a trace: {fault}"),
     }
 }
 
@@ -50,6 +34,7 @@ fn take_line(rt: &impl Print, trip: &mut Trip, number: u64, text: &[u8]) -> io::
 fn take_lines(rt: &impl Print, trip: &mut Trip, text: &[u8]) -> io::Result<()> {
     let mut place = ReadingPlace { at: 0 };
     let mut count = LineCount { lines: 0 };
+    // Stays: the place and the count are records of the caller's own, which a look ahead may put back; an iterator would hide them.
     while let Some(line) = next_line(text, &mut place, &mut count) {
         take_line(rt, trip, count.lines, line)?;
     }
@@ -61,6 +46,6 @@ fn main(rt: HostRuntime) -> io::Result<()> {
     rt.stdin().read_to_end(&mut input)?;
     let mut trip = Trip::start();
     take_lines(&rt, &mut trip, input.as_slice())?;
-    report::show(&rt, "journal", trip.journal(), Direction::TowardDepot)?;
-    report::show(&rt, "screen", trip.screen(), Direction::TowardReader)
+    report::show(&rt, "journal", &trip.journal, Direction::TowardDepot)?;
+    report::show(&rt, "screen", &trip.screen, Direction::TowardReader)
 }

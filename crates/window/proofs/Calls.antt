@@ -1,7 +1,6 @@
 -- What the calls of a window come to, once it is known whether the store fits.
-use Rattle.std.proofs.Common.{◌≡◌, ℕ, true, false, List, Ok, Err, sym, refl, ap, ◌∙◌, ⊎_elim}
+use Rattle.std.proofs.Common.{◌≡◌, ℕ, true, false, List, Some, Ok, Err, sym, refl, ap, ◌∙◌, ⊎_elim}
 use Rattle.std.proofs.lemmas.Bool.{cases_Bool, cond-true, cond-false, both_ways}
-use Rattle.window.specs.declared.answers.Lookup.TheVariants.{Held}
 use Rattle.window.specs.declared.answers.StoreRefusal.TheVariants.{WrongLength}
 use Rattle.window.specs.Numbers.{Numbers, Within, free, put, stored, lookup}
 use Rattle.window.specs.Calls.{fits, put_answer, put_numbers, put_store, found, done}
@@ -47,7 +46,7 @@ module _ (w : Numbers) {T : Type 0} (xs : List T) where
   put_numbers_width n = ⊎_elim (λ f. ap (λ v. v.width) (numbers_fit n f) ∙ put_width w n) (λ f. ap (λ v. v.width) (numbers_unfit n f)) (cases_Bool (fits w xs))
 
   -- after a put that is done its element is found under its number, and under every other what was there
-  pub found_same : (n : ℕ) (x : T) → put_answer w xs n ≡ Ok true → lookup (put_numbers w xs n) (put_store w xs n x) n ≡ Held x
+  pub found_same : (n : ℕ) (x : T) → put_answer w xs n ≡ Ok true → lookup (put_numbers w xs n) (put_store w xs n x) n ≡ Some x
   found_same n x e =
       let p = put_done n e in
       ap (λ v. lookup v (put_store w xs n x) n) (numbers_fit n p.0) ∙ ap (λ ys. lookup (put w n) ys n) (store_fit n x p.0) ∙ lookup_put_same w xs n x p.0 p.1

@@ -1,13 +1,14 @@
 -- The laws of puts, raises and look-ups.
-use Rattle.std.proofs.Common.{◌≡◌, ℕ, zero, suc, ◌+◌, ◌-◌, ◌*◌, ◌/◌, ◌%◌, ◌<◌, ◌≤◌, Bool, true, false, cond, not, ◌&&◌, ◌||◌, eqb, ltb, leb, List, [], ◌∷◌, map, length, set, Some, None, Option, sym, refl, ap, ◌∙◌, subst, ⊎_elim, mod-lt, mul-le-mul_left, mul-add, add-one-le, arith, length-set}
+use Rattle.std.proofs.Common.{◌≡◌, ℕ, zero, suc, ◌+◌, ◌-◌, ◌*◌, ◌/◌, ◌%◌, ◌<◌, ◌≤◌, Bool, true, false, cond, not, ◌&&◌, ◌||◌, eqb, ltb, leb, List, [], ◌∷◌, map, length, set, Some, None, Option, option_map, option_and_then, sym, refl, ap, ◌∙◌, subst, ⊎_elim, mod-lt, mul-le-mul_left, mul-add, add-one-le, arith, length-set}
 use native.Mathlib.Nat.{div-add-mod}
 use Rattle.std.specs.List.{slice_get}
+use Rattle.std.proofs.Math.Bool.{or-false}
+use Rattle.std.proofs.lemmas.List.{get_or-set_same, map-set}
+use Rattle.std.proofs.lemmas.Option.{slice_get-get_or, slice_get-map, slice_get_cases}
 use Rattle.std.proofs.lemmas.Bool.{cases_order, cases_lt, cases_Bool, cond-true, cond-false, and_parts, and_from, or_cases, or_right, eq-eqb, ne_eqb, eqb-true, leb-true, ltb-true, le-leb, lt-ltb, both_ways}
 use Rattle.window.specs.declared.table.NumberTable.{NumberTable}
-use Rattle.window.specs.declared.answers.Lookup.{Lookup}
-use Rattle.window.specs.declared.answers.Lookup.TheVariants.{Held, Missing}
-use Rattle.window.specs.Numbers.{Numbers, recorded, marked, empty, Within, inside, free, place, adding, put, stored, starting_at, above, raise, lying, lookup}
-use Rattle.window.specs.Calls.{fits, answer_of}
+use Rattle.window.specs.Numbers.{Numbers, recorded, marked, empty, Within, inside, free, place, adding, put, stored, starting_at, above, raise, lookup}
+use Rattle.window.specs.Calls.{fits}
 use Rattle.window.specs.Laws.{AllWithin, Lookups}
 use Rattle.window.proofs.Marks.{beyond}
 
@@ -54,9 +55,7 @@ place_below w n h = let a = inside_parts w n h in mod-lt n (omega arith)
 
 module _ {T : Type 0} where
   nth_set_same : (xs : List T) (p : ℕ) (x : T) → p < length xs → slice_get (set xs p x) p ≡ Some x
-  nth_set_same [] p x h = absurd (omega arith)
-  nth_set_same (y ∷ xs) zero x h = refl
-  nth_set_same (y ∷ xs) (suc p) x h = nth_set_same xs p x (omega arith)
+  nth_set_same xs p x h = slice_get-get_or (set xs p x) p x (omega (arith, length-set xs p x)) ∙ ap (λ y. Some y) (get_or-set_same xs p x x h)
 
   nth_set_other : (xs : List T) (p q : ℕ) (x : T) → (q ≡ p → ⊥) → slice_get (set xs p x) q ≡ slice_get xs q
   nth_set_other [] p q x ne = refl
@@ -66,30 +65,21 @@ module _ {T : Type 0} where
   nth_set_other (y ∷ xs) (suc p) (suc q) x ne = nth_set_other xs p q x (λ e. ne (ap suc e))
 
   -- a look-up, once it is known whether the number is held
-  abbrev looked : (w : Numbers) (xs : List T) (n : ℕ) → Bool → Lookup T
-  looked w xs n b = elim (cond b (Held (place w n)) Missing) [ Held p ↦ lying xs p | Missing ↦ Missing ]
+  abbrev looked : (w : Numbers) (xs : List T) (n : ℕ) → Bool → Option T
+  looked w xs n b = option_and_then (slice_get xs) (cond b (Some (place w n)) None)
 
-  pub lookup_held : (w : Numbers) (xs : List T) (n : ℕ) → w.held n ≡ true → lookup w xs n ≡ lying xs (place w n)
+  pub lookup_held : (w : Numbers) (xs : List T) (n : ℕ) → w.held n ≡ true → lookup w xs n ≡ slice_get xs (place w n)
   lookup_held w xs n h = ap (looked w xs n) h
 
-  pub lookup_missing : (w : Numbers) (xs : List T) (n : ℕ) → w.held n ≡ false → lookup w xs n ≡ Missing
+  pub lookup_missing : (w : Numbers) (xs : List T) (n : ℕ) → w.held n ≡ false → lookup w xs n ≡ None
   lookup_missing w xs n h = ap (looked w xs n) h
 
-  abbrev answer : Option T → Lookup T
-  answer o = elim o [ Some x ↦ Held x | None ↦ Missing ]
-
   -- a store that is as long as the window is wide has an element under each number held
-  pub lookup_some : (w : Numbers) (xs : List T) (n : ℕ) → Within w → fits w xs ≡ true → w.held n ≡ true → (x : T) × (slice_get xs (place w n) ≡ Some x) × (lookup w xs n ≡ Held x)
+  pub lookup_some : (w : Numbers) (xs : List T) (n : ℕ) → Within w → fits w xs ≡ true → w.held n ≡ true → (x : T) × (slice_get xs (place w n) ≡ Some x) × (lookup w xs n ≡ Some x)
   lookup_some w xs n ok fit h =
       let i = ok n h in
       let room : place w n < length xs = omega (arith, place_below w n (inside_from w n i.0 i.1), eqb-true (length xs) w.width fit) in
-      let s = some_at xs (place w n) room in
-      (s.0, s.1, lookup_held w xs n h ∙ ap answer s.1)
-    where
-      some_at : (ys : List T) (p : ℕ) → p < length ys → (x : T) × (slice_get ys p ≡ Some x)
-      some_at [] p lt = absurd (omega arith)
-      some_at (y ∷ ys) zero lt = (y, refl)
-      some_at (y ∷ ys) (suc p) lt = some_at ys p (omega arith)
+      ⊎_elim (λ s. (s.0, s.2, lookup_held w xs n h ∙ s.2)) (λ past. absurd (omega (arith, past.0, room))) (slice_get_cases xs (place w n)).1
 
 -- what a put and a raise leave, by cases
 module _ (w : Numbers) where
@@ -116,11 +106,7 @@ module _ (w : Numbers) where
 
   -- a put holds nothing else anew
   pub put_other : (n m : ℕ) → (m ≡ n → ⊥) → (put w n).held m ≡ w.held m
-  put_other n m ne = ⊎_elim (λ f. ap (λ v. v.held m) (put_yes n f) ∙ ap (λ b. w.held m || b) (ne_eqb m n ne) ∙ or_false (w.held m)) (λ f. ap (λ v. v.held m) (put_no n f)) (cases_Bool (free w n))
-    where
-      or_false : (b : Bool) → (b || false) ≡ b
-      or_false true = refl
-      or_false false = refl
+  put_other n m ne = ⊎_elim (λ f. ap (λ v. v.held m) (put_yes n f) ∙ ap (λ b. w.held m || b) (ne_eqb m n ne) ∙ or-false (w.held m)) (λ f. ap (λ v. v.held m) (put_no n f)) (cases_Bool (free w n))
 
   pub put_same : (n : ℕ) → free w n ≡ true → (put w n).held n ≡ true
   put_same n f = ap (λ v. v.held n) (put_yes n f) ∙ or_right (w.held n) (eqb n n) (eq-eqb n n refl)
@@ -161,13 +147,13 @@ module _ {T : Type 0} (w : Numbers) (xs : List T) where
   pub length_stored : (n : ℕ) (x : T) → length (stored w xs n x) ≡ length xs
   length_stored n x = ⊎_elim (λ f. ap length (stored_yes n x f) ∙ simp length-set) (λ f. ap length (stored_no n x f)) (cases_Bool (free w n))
 
-  pub lookup_put_same : (n : ℕ) (x : T) → fits w xs ≡ true → free w n ≡ true → lookup (put w n) (stored w xs n x) n ≡ Held x
+  pub lookup_put_same : (n : ℕ) (x : T) → fits w xs ≡ true → free w n ≡ true → lookup (put w n) (stored w xs n x) n ≡ Some x
   lookup_put_same n x fit f =
       let room : place w n < length xs = omega (arith, place_below w n (free_inside w n f), eqb-true (length xs) w.width fit) in
       ap (λ v. lookup v (stored w xs n x) n) (put_yes w n f)
       ∙ ap (λ ys. lookup (adding w n) ys n) (stored_yes n x f)
       ∙ lookup_held (adding w n) (set xs (place w n) x) n (or_right (w.held n) (eqb n n) (eq-eqb n n refl))
-      ∙ ap answer (nth_set_same xs (place w n) x room)
+      ∙ nth_set_same xs (place w n) x room
 
   pub lookup_put_other : (n : ℕ) (x : T) (m : ℕ) → Within w → (m ≡ n → ⊥) → lookup (put w n) (stored w xs n x) m ≡ lookup w xs m
   lookup_put_other n x m ok ne = ⊎_elim yes' (λ f. ap (λ v. lookup v (stored w xs n x) m) (put_no w n f) ∙ ap (λ ys. lookup w ys m) (stored_no n x f)) (cases_Bool (free w n))
@@ -180,40 +166,30 @@ module _ {T : Type 0} (w : Numbers) (xs : List T) where
           (λ h.
           let i = ok m h in
           lookup_held (adding w n) (set xs (place w n) x) m (same ∙ h)
-          ∙ ap answer (nth_set_other xs (place w n) (place w m) x (λ p. ne (places_apart w m n (inside_from w m i.0 i.1) (free_inside w n f) p)))
+          ∙ nth_set_other xs (place w n) (place w m) x (λ p. ne (places_apart w m n (inside_from w m i.0 i.1) (free_inside w n f) p))
           ∙ sym (lookup_held w xs m h))
           (λ h. lookup_missing (adding w n) (set xs (place w n) x) m (same ∙ h) ∙ sym (lookup_missing w xs m h))
           (cases_Bool (w.held m))
 
-  pub lookup_raise : (to n : ℕ) → above w to ≡ true → lookup (raise w to) xs n ≡ cond (leb to n) (lookup w xs n) Missing
+  pub lookup_raise : (to n : ℕ) → above w to ≡ true → lookup (raise w to) xs n ≡ cond (leb to n) (lookup w xs n) None
   lookup_raise to n up =
-      let on : Bool → Lookup T = λ b. elim (cond (b && w.held n) (Held (place w n)) Missing) [ Held p ↦ lying xs p | Missing ↦ Missing ] in
+      let on : Bool → Option T = λ b. option_and_then (slice_get xs) (cond (b && w.held n) (Some (place w n)) None) in
       ap (λ v. lookup v xs n) (raise_yes w to up)
       ∙ ⊎_elim (λ h. ap on h ∙ sym (cond-true (leb to n) _ _ h)) (λ h. ap on h ∙ sym (cond-false (leb to n) _ _ h)) (cases_Bool (leb to n))
 
 -- look-ups and puts in a store of readings of the elements
 module _ {S T : Type 0} (f : S → T) where
-  nth_map : (xs : List S) (p : ℕ) → lying (map f xs) p ≡ answer_of f (lying xs p)
-  nth_map [] p = refl
-  nth_map (x ∷ xs) zero = refl
-  nth_map (x ∷ xs) (suc p) = nth_map xs p
-
-  set_map : (xs : List S) (p : ℕ) (x : S) → map f (set xs p x) ≡ set (map f xs) p (f x)
-  set_map [] p x = refl
-  set_map (y ∷ xs) zero x = refl
-  set_map (y ∷ xs) (suc p) x = ap (λ ys. f y ∷ ys) (set_map xs p x)
-
-  pub lookup_map : (w : Numbers) (xs : List S) (n : ℕ) → lookup w (map f xs) n ≡ answer_of f (lookup w xs n)
+  pub lookup_map : (w : Numbers) (xs : List S) (n : ℕ) → lookup w (map f xs) n ≡ option_map f (lookup w xs n)
   lookup_map w xs n =
       ⊎_elim
-      (λ h. lookup_held w (map f xs) n h ∙ nth_map xs (place w n) ∙ ap (answer_of f) (sym (lookup_held w xs n h)))
-      (λ h. lookup_missing w (map f xs) n h ∙ ap (answer_of f) (sym (lookup_missing w xs n h)))
+      (λ h. lookup_held w (map f xs) n h ∙ slice_get-map f xs (place w n) ∙ ap (option_map f) (sym (lookup_held w xs n h)))
+      (λ h. lookup_missing w (map f xs) n h ∙ ap (option_map f) (sym (lookup_missing w xs n h)))
       (cases_Bool (w.held n))
 
   pub stored_map : (w : Numbers) (xs : List S) (n : ℕ) (x : S) → map f (stored w xs n x) ≡ stored w (map f xs) n (f x)
   stored_map w xs n x =
       ⊎_elim
-      (λ h. ap (map f) (stored_yes w xs n x h) ∙ set_map xs (place w n) x ∙ sym (stored_yes w (map f xs) n (f x) h))
+      (λ h. ap (map f) (stored_yes w xs n x h) ∙ map-set f xs (place w n) x ∙ sym (stored_yes w (map f xs) n (f x) h))
       (λ h. ap (map f) (stored_no w xs n x h) ∙ sym (stored_no w (map f xs) n (f x) h))
       (cases_Bool (free w n))
 

@@ -1,7 +1,5 @@
 -- What the calls of a window answer and leave, over the store that they are lent.
-use Rattle.std.specs.Prelude.{◌≡◌, ℕ, Bool, true, false, cond, ◌&&◌, List, length, Ok, Err, Result, ◌==◌, nat_le}
-use Rattle.window.specs.declared.answers.Lookup.{Lookup}
-use Rattle.window.specs.declared.answers.Lookup.TheVariants.{Held, Missing}
+use Rattle.std.specs.Prelude.{◌≡◌, ℕ, Bool, true, false, cond, ◌&&◌, List, length, Ok, Err, Option, Result, ◌==◌, nat_le, option_map}
 use Rattle.window.specs.declared.answers.StoreRefusal.{StoreRefusal}
 use Rattle.window.specs.declared.answers.StoreRefusal.TheVariants.{WrongLength}
 use Rattle.window.specs.declared.window.Window.{Window}
@@ -21,6 +19,10 @@ module _ (w : Numbers) {T : Type 0} (xs : List T) where
   abbrev pub fits : Bool
   fits = length xs == w.width
 
+  -- what is answered of a store alone
+  abbrev pub checked : Result (Unit {0}) StoreRefusal
+  checked = cond fits (Ok tt) (Err WrongLength)
+
   -- whether a put is done
   abbrev pub put_answer : ℕ → Result Bool StoreRefusal
   put_answer n = cond fits (Ok (free w n)) (Err WrongLength)
@@ -34,17 +36,12 @@ module _ (w : Numbers) {T : Type 0} (xs : List T) where
   put_store n x = cond fits (stored w xs n x) xs
 
   -- the answer of a look-up
-  abbrev pub found : ℕ → Result (Lookup T) StoreRefusal
+  abbrev pub found : ℕ → Result (Option T) StoreRefusal
   found n = cond fits (Ok (lookup w xs n)) (Err WrongLength)
 
--- an answer about other elements
-abbrev pub answer_of : {R T : Type 0} → (R → T) → Lookup R → Lookup T
-answer_of f (Held p) = Held (f p)
-answer_of f Missing = Missing
-
 -- a look-up's answer with what its reference points to
-abbrev pub seen : {R T : Type 0} → (R → T) → Result (Lookup R) StoreRefusal → Result (Lookup T) StoreRefusal
-seen f (Ok a) = Ok (answer_of f a)
+abbrev pub seen : {R T : Type 0} → (R → T) → Result (Option R) StoreRefusal → Result (Option T) StoreRefusal
+seen f (Ok a) = Ok (option_map f a)
 seen f (Err e) = Err e
 
 -- a call that didn't do what it was asked to leaves the value as it was

@@ -1,10 +1,8 @@
 -- The numbers of a window, and what a put, a raise and a look-up make of them.
-use Rattle.std.specs.Prelude.{◌≡◌, ℕ, ◌+◌, ◌-◌, ◌/◌, ◌%◌, ◌^◌, ◌<◌, ◌≤◌, Bool, true, false, cond, not, ◌&&◌, ◌||◌, List, Some, None, ◌==◌, nat_le, nat_lt, slice_set}
+use Rattle.std.specs.Prelude.{◌≡◌, ℕ, ◌+◌, ◌-◌, ◌/◌, ◌%◌, ◌^◌, ◌<◌, ◌≤◌, Bool, true, false, cond, not, ◌&&◌, ◌||◌, List, Some, None, Option, ◌==◌, nat_le, nat_lt, option_and_then, slice_set}
 use Rattle.std.specs.List.{slice_get}
 use Rattle.window.specs.declared.table.NumberTable.{NumberTable}
 use Rattle.window.specs.declared.window.Window.{Window}
-use Rattle.window.specs.declared.answers.Lookup.{Lookup}
-use Rattle.window.specs.declared.answers.Lookup.TheVariants.{Held, Missing}
 
 -- where a window begins, how far it reaches, and which numbers it holds
 pub record Numbers : Type 0 where
@@ -31,10 +29,6 @@ numbers w = recorded w.table
 -- a window with nothing in it
 abbrev pub empty : ℕ → Numbers
 empty wide = record { anchor = 0; width = wide; held = λ n. false }
-
--- what lies at a place of a store
-abbrev pub lying : {T : Type 0} → List T → ℕ → Lookup T
-lying xs p = elim (slice_get xs p) [ Some x ↦ Held x | None ↦ Missing ]
 
 module _ (w : Numbers) where
   -- what is held lies from the anchor on and within the width
@@ -77,10 +71,10 @@ module _ (w : Numbers) where
   abbrev pub raise : ℕ → Numbers
   raise to = cond (above to) (starting_at to) w
 
-  -- how a number stands: held at its place, or missing
-  abbrev pub standing : ℕ → Lookup ℕ
-  standing n = cond (w.held n) (Held (place n)) Missing
+  -- the place of a number that is held
+  abbrev pub standing : ℕ → Option ℕ
+  standing n = cond (w.held n) (Some (place n)) None
 
   -- what a store has under a number
-  abbrev pub lookup : {T : Type 0} → List T → ℕ → Lookup T
-  lookup xs n = elim (standing n) [ Held p ↦ lying xs p | Missing ↦ Missing ]
+  abbrev pub lookup : {T : Type 0} → List T → ℕ → Option T
+  lookup xs n = option_and_then (slice_get xs) (standing n)

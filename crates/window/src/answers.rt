@@ -1,18 +1,11 @@
-// What a window answers.
+// Why a window refuses.
 ghost use Rattle.std.specs.Prelude.{◌≡◌};
 ghost use Rattle.window.specs.Refusals.{store_refusal_of};
-
-// What a look-up finds under a number.
-#[derive(Clone, Copy)]
-pub enum Lookup<E> {
-    Held(E),
-    Missing,
-}
 
 // Why a lent store is refused.
 #[derive(Clone, Copy, PartialEq, Eq, Debug)]
 pub enum StoreRefusal {
-    WrongLength,
+    WrongLength = 5,
 }
 
 impl StoreRefusal {
@@ -20,8 +13,6 @@ impl StoreRefusal {
     pub fn number(self) -> u8
         ensures { result ≡ store_refusal_of self }
     {
-        match self {
-            StoreRefusal::WrongLength => 5,
-        }
+        self as u8
     }
 }

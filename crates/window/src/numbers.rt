@@ -2,14 +2,13 @@
 ghost use Rattle.std.specs.Prelude.{◌≡◌, ◌/◌, ◌^◌, ◌<◌, ◌≤◌, true};
 ghost use Rattle.window.specs.Numbers.{recorded, free, place, adding, starting_at, standing};
 
-use crate::answers::Lookup;
 use crate::table::NumberTable;
 
 // The marks without the lowest `by`.
 fn shifted(marks: u64, by: u32) -> u64
     ensures { result ≡ marks / 2 ^ by }
 {
-    if by < 64 { marks >> by } else { 0 }
+    marks.checked_shr(by).unwrap_or(0)
 }
 
 impl NumberTable {
@@ -17,23 +16,15 @@ impl NumberTable {
     pub(crate) fn holds(&self, n: u32) -> bool
         ensures { result ≡ (recorded self.now).held n }
     {
-        if n < self.anchor {
-            return false;
-        }
-        shifted(self.marks, n - self.anchor) % 2 == 1
+        n.checked_sub(self.anchor)
+            .is_some_and(|bit| shifted(self.marks, bit) % 2 == 1)
     }
 
     // Whether the number `n` lies in the window and isn't held.
     pub(crate) fn takes(&self, n: u32) -> bool
         ensures { result ≡ free (recorded self.now) n }
     {
-        if n < self.anchor {
-            return false;
-        }
-        if (n - self.anchor) as usize >= self.width {
-            return false;
-        }
-        !self.holds(n)
+        n >= self.anchor && ((n - self.anchor) as usize) < self.width && !self.holds(n)
     }
 
     // The place of the element of the number `n`.
@@ -44,15 +35,11 @@ impl NumberTable {
         n as usize % self.width
     }
 
-    // How the number `n` stands.
-    pub(crate) fn standing(&self, n: u32) -> Lookup<usize>
+    // The place of the number `n`, where it is held.
+    pub(crate) fn standing(&self, n: u32) -> Option<usize>
         ensures { result ≡ standing (recorded self.now) n }
     {
-        if self.holds(n) {
-            Lookup::Held(self.place(n))
-        } else {
-            Lookup::Missing
-        }
+        self.holds(n).then_some(self.place(n))
     }
 
     // The table with the number `n` held too.

@@ -1,25 +1,16 @@
 // The window.
-ghost use Rattle.std.specs.Prelude.{◌≡◌, ◌<◌, length, Some};
-ghost use Rattle.std.specs.List.{slice_get};
+ghost use Rattle.std.specs.Prelude.{◌≡◌};
 ghost use Rattle.window.specs.Numbers.{numbers, raise, above};
 ghost use Rattle.window.specs.Laws.{AllWithin, Lookups};
-ghost use Rattle.window.specs.Calls.{opened, numbers_of, put_answer, put_numbers, put_store, found, seen, KeptUnless, done};
+ghost use Rattle.window.specs.Calls.{opened, numbers_of, checked, put_answer, put_numbers, put_store, found, seen, KeptUnless, done};
 
-use crate::answers::{Lookup, StoreRefusal};
+use crate::answers::StoreRefusal;
 use crate::table::NumberTable;
 
 // Which numbers a window holds; their elements lie in a store that is lent to each call.
 #[derive(Clone, Copy)]
 pub struct Window {
     pub(crate) table: NumberTable,
-}
-
-// The element at a place of a store.
-fn element<T>(store: &[T], place: usize) -> &T
-    requires { place < length store.now }
-    ensures { slice_get store.now place ≡ Some result.now }
-{
-    &store[place]
 }
 
 impl Window {
@@ -61,6 +52,17 @@ impl Window {
         self.table.holds(n)
     }
 
+    // That a lent store is as long as the window is wide.
+    fn check<T>(&self, store: &[T]) -> Result<(), StoreRefusal>
+        ensures { result ≡ checked (numbers self.now) store.now }
+    {
+        if store.len() == self.width() {
+            Ok(())
+        } else {
+            Err(StoreRefusal::WrongLength)
+        }
+    }
+
     // Puts `x` under the number `n`; false where `n` lies outside the window or is held.
     pub fn put<T: Copy>(&mut self, store: &mut [T], n: u32, x: T) -> Result<bool, StoreRefusal>
         ensures answer { result ≡ put_answer (numbers self.old) store.old n }
@@ -68,9 +70,7 @@ impl Window {
         ensures store { store.new ≡ put_store (numbers self.old) store.old n x }
         ensures kept { KeptUnless (done result) self.old self.new }
     {
-        if store.len() != self.width() {
-            return Err(StoreRefusal::WrongLength);
-        }
+        self.check(store)?;
         if !self.table.takes(n) {
             return Ok(false);
         }
@@ -80,16 +80,11 @@ impl Window {
     }
 
     // The element under the number `n`, in the store itself.
-    pub fn get<'a, T>(&self, store: &'a [T], n: u32) -> Result<Lookup<&'a T>, StoreRefusal>
+    pub fn get<'a, T>(&self, store: &'a [T], n: u32) -> Result<Option<&'a T>, StoreRefusal>
         ensures { seen (λ p. p.now) result ≡ found (numbers self.now) store.now n }
     {
-        if store.len() != self.width() {
-            return Err(StoreRefusal::WrongLength);
-        }
-        match self.table.standing(n) {
-            Lookup::Held(place) => Ok(Lookup::Held(element(store, place))),
-            Lookup::Missing => Ok(Lookup::Missing),
-        }
+        self.check(store)?;
+        Ok(self.table.standing(n).and_then(|place| store.get(place)))
     }
 
     // Raises the anchor and drops what is below it; false where that would lower it.

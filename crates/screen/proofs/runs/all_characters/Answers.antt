@@ -1,23 +1,12 @@
-use Rattle.std.proofs.Common.{◌+◌, ◌&&◌, drop, sym, ap, ◌∙◌}
-use Rattle.std.proofs.lemmas.List.{at_drop_more, at_drop_all}
-use Rattle.screen.specs.Runs.{all_characters}
+use Rattle.std.proofs.Common.{refl, ◌∙◌, ◌&&◌, rules, tests}
+use Rattle.std.specs.List.{list_all}
+use Rattle.std.proofs.lemmas.Iterator.{YieldsList-from_slice}
+use Rattle.std.proofs.lemmas.Iterator.Search.{all_from_yields_List}
+use Rattle.std.proofs.lemmas.List.Recursion.{same_from_clauses}
+use Rattle.screen.specs.Runs.{is_character, all_characters}
 use Rattle.screen.proofs.runs.all_characters.Goals as goal
 
-pub returns-then-not-is_character : goal.returns-then-not-is_character
-returns-then-not-is_character c =
-    let xs = c.args.cells.now in
-    let i = c.loop-x.x-index in
-    ap (λ x. x && all_characters (drop (i + 1) xs)) c.if-not-is_character.ensures
-    ∙ sym (at_drop_more all_characters xs i 0 c.loop-x-test.true)
-    ∙ c.loop-x.invariant
-
-pub loop-x-preserved : goal.loop-x-preserved
-loop-x-preserved c =
-    let xs = c.args.cells.now in
-    let i = c.loop-x.x-index in
-    ap (λ x. x && all_characters (drop (i + 1) xs)) c.if-not-is_character.ensures
-    ∙ sym (at_drop_more all_characters xs i 0 c.loop-x-test.true)
-    ∙ c.loop-x.invariant
-
 pub returns : goal.returns
-returns c = sym (at_drop_all all_characters c.args.cells.now c.loop-x.x-index c.loop-x-test.false) ∙ c.loop-x.invariant
+returns c =
+    all_from_yields_List is_character _ _ _ c.all.ensures.ran (YieldsList-from_slice c.args.cells.now cc) (λ x b q k. search (rules, tests))
+    ∙ same_from_clauses (list_all is_character) all_characters (λ x r. is_character x && r) refl (λ _ _. refl) (λ _ _. refl) c.args.cells.now

@@ -1,34 +1,32 @@
-use Rattle.std.proofs.Common.{◌≡◌, ℕ, ◌+◌, ◌-◌, List, length, drop, Ok, Err, Result, sym, ap, ◌∙◌, arith}
-use Rattle.std.proofs.lemmas.List.{drop_all}
-use Rattle.state.specs.declared.fault.StateFault.{StateFault}
-use Rattle.state.specs.declared.fault.StateFault.TheVariants.{BadRun}
+use Rattle.std.proofs.Common.{◌+◌, ◌-◌, length, sym, ap, ◌∙◌, arith}
 use Rattle.state.specs.Parts.{parts}
-use Rattle.screen.specs.Runs.{Drawing, run_read}
+use borrow.Rule.Slice.PartMut.{put_mid}
+use Rattle.screen.specs.Runs.{put, run_read}
 use Rattle.screen.specs.Placed.{put_part, length_put}
-use Rattle.screen.proofs.Readers.{read_bad, read_good}
+use Rattle.screen.proofs.Readers.{read_good}
 use Rattle.screen.proofs.runs.redraw.Goals as goal
 
-told : Result Drawing ℕ → Result (List ℕ) StateFault
-told r = elim r [ Ok s ↦ Ok s.cells | Err at ↦ Err (BadRun at) ]
+pub loop-rest-smaller : goal.loop-rest-smaller
+loop-rest-smaller c =
+    let l = c.loop-rest in
+    let f = read_good l.cells l.rest.now l.free (length c.args.d.now - length l.rest.now) c.in_ok-run.run' c.in_ok-run.behind (rw c.in_ok-run.ensures.ok_part at c.read.ensures) in
+    omega (arith, f.shorter)
 
-pub returns-in_default : goal.returns-in_default
-unfolding told
-returns-in_default c = ap told (sym c.loop-at.invariant.1 ∙ read_bad c.loop-at.cells c.args.d.now c.loop-at.free c.loop-at.at c.loop-at-test.true c.in_default.ensures)
-
-pub loop-at-preserved : goal.loop-at-preserved
-loop-at-preserved c =
-    let r = c.in-Some.field-0 in
-    let text = c.copy_from_slice.new.self in
-    let long : length c.loop-at.cells ≡ 320 = c.loop-at.invariant.0 in
-    let f = read_good c.loop-at.cells c.args.d.now c.loop-at.free c.loop-at.at c.loop-at-test.true r text c.in-Some.ensures c.copy_from_slice.ensures.after in
-    let count : r.position + r.length - r.position ≡ length text = omega (arith, f.size) in
-    let placed = put_part c.loop-at.cells text r.position (r.position + r.length - r.position) count in (
-      ap length placed ∙ length_put c.loop-at.cells r.position text (omega (arith, f.inside, f.size)) ∙ long,
-      ap (λ xs. parts run_read (record { cells = xs; free = r.position + r.length }) (c.loop-at.at + 3 + r.length) 0 (drop (c.loop-at.at + 3 + r.length) c.args.d.now)) placed
-          ∙ sym f.step ∙ c.loop-at.invariant.1,
+pub loop-rest-preserved : goal.loop-rest-preserved
+loop-rest-preserved c =
+    let l = c.loop-rest in
+    let d = c.args.d.now in
+    let at = length d - length l.rest.now in
+    let r = c.in_ok-run.run' in
+    let text = r.characters.now in
+    let rest = c.in_ok-run.behind.now in
+    let i = l.invariant in
+    let f = read_good l.cells l.rest.now l.free at r c.in_ok-run.behind (rw c.in_ok-run.ensures.ok_part at c.read.ensures) in
+    let placed = ap (put_mid r.position (c.end-free.result - r.position) l.cells) c.copy_from_slice.ensures.after ∙ put_part l.cells text r.position (c.end-free.result - r.position) (omega (arith, c.end-free.ensures)) in (
+      ap length placed ∙ length_put l.cells r.position text (omega (arith, f.inside, i.0)) ∙ i.0,
+      omega (arith, f.shorter, i.1),
+      ap (λ xs. parts run_read (record { cells = xs; free = c.end-free.result }) (length d - length rest) 0 rest) placed
+          ∙ ap (λ n. parts run_read (record { cells = put l.cells r.position text; free = n }) (length d - length rest) 0 rest) c.end-free.ensures
+          ∙ ap (λ n. parts run_read (record { cells = put l.cells r.position text; free = r.position + length text }) n 0 rest) {x = length d - length rest} {y = at + (3 + length text)} (omega (arith, f.shorter, i.1))
+          ∙ sym f.step ∙ i.2,
     )
-
-pub returns : goal.returns
-unfolding told
-returns c =
-    ap told (sym c.loop-at.invariant.1 ∙ ap (parts run_read (record { cells = c.loop-at.cells; free = c.loop-at.free }) c.loop-at.at 0) (drop_all c.loop-at.at c.args.d.now c.loop-at-test.false))

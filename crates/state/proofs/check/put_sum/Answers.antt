@@ -1,8 +1,8 @@
-use Rattle.std.proofs.Common.{◌∙◌, arith}
-use Rattle.state.specs.Checked.{sum_made, sum_put}
+use Rattle.std.proofs.Common.{◌∙◌}
+use Rattle.state.proofs.Sealing.{sum_put}
 use Rattle.state.proofs.check.put_sum.Goals as goal
 
 pub returns : goal.returns
 returns c =
-    let made = sum_made c.internet_checksum.result c.to_be_bytes-sum.result c.args.n c.args.out.now c.internet_checksum.type_inv c.internet_checksum.ensures c.to_be_bytes-sum.ensures in
-    sum_put c.args.n _ c.args.out.now c.copy_from_slice.new.self (omega arith) (c.copy_from_slice.ensures.after ∙ made)
+    let s = c.split_at_mut-inner.ensures in
+    sum_put c.args.n c.args.out.now _ _ _ c.internet_checksum.result c.internet_checksum.type_inv s.front s.back c.internet_checksum.ensures (c.copy_from_slice.ensures.after ∙ c.to_be_bytes.ensures)
