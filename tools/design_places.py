@@ -75,6 +75,12 @@ def functions(text):
 
 def stays(text, at):
     """Whether a `Stays` line stands just above the place, or above the function that it is in."""
+    around = list(re.finditer(r"^\s*(?:pub(?:\(crate\))? )?fn \w+", text[:at], re.M))
+    return reasoned(text, at) or bool(around) and "\n}" not in text[around[-1].start():at] and reasoned(text, around[-1].end())
+
+
+def reasoned(text, at):
+    """Whether a `Stays` line stands just above the place."""
     lines = text[:at].split("\n")[:-1]
     k = len(lines) - 1
     while k >= 0 and re.match(r"\s*(//|#\[|pub |ghost |fn |requires|ensures|$)", lines[k]) or (k >= 0 and k > len(lines) - 4):
@@ -168,10 +174,10 @@ def scan(rev):
             # 6: an array with its count beside it
             if re.search(r": \[[^\]]+; [^\]]+\]", inner) and re.search(r"\b(count|len|length|used|n): (usize|u\d+)", inner):
                 place(6, "an array with a count beside it", name, text, m.start())
-        for m in re.finditer(r"\b\w+ \{ length \}|Whole \{ length: usize \}|pub length: usize", text):
+        for m in re.finditer(r"\b\w+ \{ length \}|Whole \{ length: usize \}|pub(?:\(crate\))? length: usize", text):
             if "enum" in text[max(0, m.start() - 200):m.start()] or m.group().startswith("pub"):
                 place(6, "a length told beside a buffer", name, text, m.start())
-        for m in re.finditer(r"\[0\.\.\w+(?:\.\w+)*(?:\([^)]*\))?(?: - \d)?\]|\[0\.\.\w+\.min", text):
+        for m in re.finditer(r"\[0?\.\.\w+(?:\.\w+)*(?:\([^)]*\))?(?: - \d)?\]|\[0?\.\.\w+\.min", text):
             place(6, "a buffer cut by a length", name, text, m.start())
         # 3: loops that count by hand
         for m in re.finditer(r"\b(while|loop)\b[^\n]*\{", text):
@@ -183,7 +189,7 @@ def scan(rev):
             a, b = block(text, m.start())
             if "enumerate()" in m.group() or ".." in m.group():
                 continue
-            if re.search(r"\b\w+ \+= ", text[a:b]) or re.search(r"return (true|false|\w+);", text[a:b]):
+            if re.search(r"\b\w+ \+= |\bat = ", text[a:b]) or re.search(r"return (true|false|\w+);", text[a:b]):
                 place(3, "for that sums, counts or searches", name, text, m.start())
             elif re.search(r"\.push\(", text[a:b]):
                 place(3, "for that collects", name, text, m.start())

@@ -1,4 +1,4 @@
-// The half-made instruction: what puts an instruction together from its fragments, in whatever order they come.
+//! The half-made instruction: what puts an instruction together from its fragments, in whatever order they come.
 #![tactic(auto)]
 
 pub mod assembly;

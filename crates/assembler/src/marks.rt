@@ -1,4 +1,4 @@
-// The marks of a half-made instruction: which fragments are there, and which is the last.
+//! The marks of a half-made instruction: which fragments are there, and which is the last.
 ghost use Rattle.std.specs.Prelude.{◌≡◌, ◌/◌, ◌^◌, ◌<◌, true, false, None, nat_lt};
 ghost use Rattle.packet.specs.Pieces.{piece_of};
 ghost use Rattle.assembler.specs.Offers.{repeats, contradicts};
@@ -10,7 +10,7 @@ use crate::placing;
 use crate::sound::Sound;
 use packet::fragment::Fragment;
 
-// Bit k of `held` is for fragment k.
+/// Bit k of `held` is for fragment k.
 #[derive(Clone, Copy)]
 pub(crate) struct Marks {
     held: u8,
@@ -19,7 +19,7 @@ pub(crate) struct Marks {
 }
 
 impl Marks {
-    // The marks where nothing is there.
+    /// The marks where nothing is there.
     pub(crate) fn none() -> Marks
         ensures { (result.held ≡ 0) × (result.last ≡ None) }
     {
@@ -29,7 +29,7 @@ impl Marks {
         }
     }
 
-    // Puts the contents of a fragment at its place in the buffer, and gives the marks with its own.
+    /// Puts the contents of a fragment at its place in the buffer, and gives the marks with its own.
     pub(crate) fn with(self, buf: &mut [u8; 2048], piece: Sound<'_>) -> Marks
         requires { contradicts (marked self.held self.last buf.old) (piece_of piece.fragment) ≡ false }
         ensures held { result.held ≡ with_mark self.held piece.entry.fragment.number }
@@ -43,7 +43,7 @@ impl Marks {
         }
     }
 
-    // The last fragment, once this one is there.
+    /// The last fragment, once this one is there.
     fn last_with(self, fragment: Fragment<'_>) -> Option<Last>
         ensures { result ≡ last_with self.last (piece_of fragment.entry) }
     {
@@ -57,7 +57,7 @@ impl Marks {
         }
     }
 
-    // The length of the instruction, if all its fragments are there.
+    /// The length of the instruction, if all its fragments are there.
     pub(crate) fn full_length(self) -> Option<usize>
         ensures { result ≡ full_length self.held self.last }
     {
@@ -69,7 +69,8 @@ impl Marks {
         }
     }
 
-    // Whether a fragment contradicts one that is held of its sending.
+    /// Whether a fragment contradicts one that is held of its sending.
+    // Stays: this reads the buffer and `with` writes it, so a struct of buffer and fragment would be two, one with `&` and one with `&mut`.
     pub(crate) fn contradicts(self, buf: &[u8; 2048], piece: Sound<'_>) -> bool
         ensures { result ≡ contradicts (marked self.held self.last buf.now) (piece_of piece.entry.fragment) }
     {
@@ -81,7 +82,7 @@ impl Marks {
         }
     }
 
-    // Whether a fragment says what is held under its number.
+    /// Whether a fragment says what is held under its number.
     fn repeats(self, buf: &[u8; 2048], piece: Sound<'_>) -> bool
         ensures { result ≡ repeats (in_buffer self.last buf.now piece.entry.fragment.number) (piece_of piece.entry.fragment) }
     {
@@ -90,7 +91,7 @@ impl Marks {
             && self.bytes(buf, piece.number()) == fragment.contents
     }
 
-    // The bytes that are held under a number.
+    /// The bytes that are held under a number.
     fn bytes(self, buf: &[u8; 2048], number: u8) -> &[u8]
         requires { number < 8 }
         ensures { result.now ≡ (in_buffer self.last buf.now number).bytes }
@@ -99,7 +100,7 @@ impl Marks {
         &buf[from..from + self.size_of(number)]
     }
 
-    // Whether a fragment that isn't there yet goes against the last one: it is another last one, or it lies above.
+    /// Whether a fragment that isn't there yet goes against the last one: it is another last one, or it lies above.
     fn past_last(self, fragment: Fragment<'_>) -> bool
         ensures { result ≡ past_last self.last (piece_of fragment.entry) }
     {
@@ -107,21 +108,21 @@ impl Marks {
             .is_some_and(|end| fragment.last || fragment.number > end.number)
     }
 
-    // Whether the fragment is there.
+    /// Whether the fragment is there.
     fn has(self, piece: Sound<'_>) -> bool
         ensures { result ≡ bit_at self.held piece.entry.fragment.number }
     {
         (self.held >> piece.number()) % 2 == 1
     }
 
-    // Whether a fragment above it is there.
+    /// Whether a fragment above it is there.
     fn has_above(self, piece: Sound<'_>) -> bool
         ensures { result ≡ nat_lt 1 (self.held / 2 ^ piece.entry.fragment.number) }
     {
         self.held >> piece.number() > 1
     }
 
-    // How many bytes the fragment has, if it is there.
+    /// How many bytes the fragment has, if it is there.
     fn size_of(self, number: u8) -> usize
         ensures { result ≡ size_of self.last number }
     {
@@ -131,7 +132,7 @@ impl Marks {
         }
     }
 
-    // Whether the fragment is the last, if it is there.
+    /// Whether the fragment is the last, if it is there.
     fn is_last(self, number: u8) -> bool
         ensures { result ≡ is_last self.last number }
     {

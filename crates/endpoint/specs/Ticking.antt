@@ -9,7 +9,8 @@ use Rattle.packet.specs.Sendings.{sent_into, sending_bytes}
 use Rattle.protocol.specs.declared.answer.Ticked.{Ticked}
 use Rattle.protocol.specs.declared.answer.Ticked.TheVariants.{Idle, Sent}
 use Rattle.protocol.specs.declared.fault.TickRefusal.{TickRefusal}
-use Rattle.protocol.specs.declared.fault.TickRefusal.TheVariants.{LateTime, WrongStore, ShortBuffer, NotFollowing, NoSendingsLeft, LongDiff}
+use Rattle.protocol.specs.declared.fault.CallRefusal.TheVariants.{LateTime, WrongStore}
+use Rattle.protocol.specs.declared.fault.TickRefusal.TheVariants.{Call, ShortBuffer, NotFollowing, NoSendingsLeft, LongDiff}
 use Rattle.endpoint.specs.Due.{Facts, due, patience, since}
 use Rattle.endpoint.specs.End.{End, Holding, latest, both_fit, state_at}
 
@@ -149,5 +150,5 @@ module _ (K L : Kind) where
       cond (nat_le time latest)
       (cond (both_fit h.sent_store h.received_store)
       (cond (nat_le 2224 (length out)) (judged h (max h.end.clock time) out) (refuses h out ShortBuffer))
-      (refuses h out WrongStore))
-      (refuses h out LateTime)
+      (refuses h out (Call WrongStore)))
+      (refuses h out (Call LateTime))

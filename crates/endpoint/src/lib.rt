@@ -1,4 +1,4 @@
-// An end of the protocol: what its calls answer and why they refuse, and theorems of the definitions.
+//! An end of the protocol: what its calls answer and why they refuse, and theorems of the definitions.
 #![tactic(auto)]
 
 pub mod edges;

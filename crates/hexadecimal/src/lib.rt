@@ -1,4 +1,4 @@
-// Bytes in hexadecimal.
+//! Bytes in hexadecimal.
 #![tactic(auto)]
 
 ghost use Rattle.std.specs.Prelude.{◌≡◌, ◌<◌, IfOk, IfSome};
@@ -6,7 +6,8 @@ ghost use Rattle.hexadecimal.specs.Digits.{digit_of, byte_of, bytes_of};
 
 use std::alloc::{AllocError, Global};
 
-// The value of a digit.
+/// The value of a digit.
+// Stays: `to_digit` takes small letters too.
 fn digit(b: u8) -> Option<u8>
     ensures value { result ≡ digit_of b }
     ensures below { IfSome result (λ d. d < 16) }
@@ -18,7 +19,7 @@ fn digit(b: u8) -> Option<u8>
     }
 }
 
-// The byte that two digits write.
+/// The byte that two digits write.
 // Stays: `u8::from_str_radix` takes small letters, a sign and a single digit too.
 pub fn byte(word: &str) -> Option<u8>
     ensures { result ≡ byte_of word.now }
@@ -29,7 +30,7 @@ pub fn byte(word: &str) -> Option<u8>
     }
 }
 
-// The bytes at the front of a text, parted by single spaces, up to the first word that is no byte.
+/// The bytes at the front of a text, parted by single spaces, up to the first word that is no byte.
 pub fn bytes(heap: Global, text: &str) -> Result<Vec<u8>, AllocError>
     ensures { IfOk result (λ bytes. bytes.items ≡ bytes_of text.now) }
 {

@@ -59,10 +59,6 @@ journal_reaches b t f short =
     applied_good b (entries_bytes (added b t)) (added b t) (read_all (added b t) [] 0)
     ∙ few_yes (b.0 ++ added b t) (λ c. Ok c) _ t (ap (λ x. x ++ added b t) (front b t f) ∙ take-append-drop (length b.0) t.0)
 
-pub bytes_append : (xs ys : List Entry) → entries_bytes (xs ++ ys) ≡ entries_bytes xs ++ entries_bytes ys
-bytes_append [] ys = refl
-bytes_append (x ∷ xs) ys = ap (λ z. entry_bytes x ++ z) (bytes_append xs ys) ∙ sym (append_assoc (entry_bytes x) (entries_bytes xs) (entries_bytes ys))
-
 pub length_few : (es : List Entry) → length (entries_bytes es) ≤ 9 * length es
 length_few [] = omega arith
 length_few (e ∷ es) = omega (arith, length-append (entry_bytes e) (entries_bytes es), width_le e, length_few es)

@@ -1,5 +1,5 @@
 -- A journal's contents with one entry more.
-use Rattle.std.specs.Prelude.{ℕ, cond, ◌&&◌, [], ◌∷◌, ◌++◌, Ok, Err, Result, nat_lt}
+use Rattle.std.specs.Prelude.{◌≡◌, ℕ, cond, ◌&&◌, [], ◌∷◌, ◌++◌, Ok, Err, Result, nat_lt}
 use Rattle.state.specs.declared.fault.EditRefusal.{EditRefusal}
 use Rattle.state.specs.declared.fault.EditRefusal.TheVariants.{OutsideField, Full}
 use Rattle.journal.specs.declared.entry.Entry.{Entry}
@@ -10,6 +10,11 @@ use Rattle.journal.specs.Journals.{Contents, if_few, reading}
 -- one entry more, while there is room for it
 unfoldable pub pushed : Contents → Entry → Result Contents EditRefusal
 pushed c e = if_few (c.0 ++ (e ∷ [])) (λ t. Ok t) (Err Full)
+
+-- an entry put into a journal: its contents with the entry, or the refusal and the journal as it was
+abbrev pub Pushed : Journal → Entry → Journal → Result (Unit {0}) EditRefusal → Type 0
+Pushed j e j' (Ok u) = pushed (reading j) e ≡ Ok (reading j')
+Pushed j e j' (Err f) = (pushed (reading j) e ≡ Err f) × (j' ≡ j)
 
 -- a key more, whose code is a byte
 abbrev pub keyed : Contents → ℕ → Result Contents EditRefusal

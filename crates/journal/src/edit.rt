@@ -1,21 +1,20 @@
-// A journal with one entry more.
-ghost use Rattle.std.specs.Prelude.{◌≡◌, ◌≤◌, length, Ok, Err};
+//! A journal with one entry more.
+ghost use Rattle.std.specs.Prelude.{◌≡◌};
 ghost use Rattle.journal.specs.Journals.{reading as contents};
-ghost use Rattle.journal.specs.Edits.{edited, keyed, pushed, tapped};
+ghost use Rattle.journal.specs.Edits.{edited, keyed, pushed, Pushed, tapped};
 
 use crate::entry::Entry;
-use crate::journal::Journal;
+use crate::journal::{CAPACITY, Journal};
 use state::fault::EditRefusal;
 
 impl Journal {
-    // Puts an entry behind the others; a full journal is refused.
+    /// Puts an entry behind the others; a full journal is refused and stays as it is.
     #[tactic(auto, unfolding(crate::specs::Edits::pushed))]
-    fn push(&mut self, entry: Entry) -> Result<(), EditRefusal>
-        requires { (self.old.count ≤ 64) × (length self.old.entries ≡ 64) }
-        ensures { elim result [ Ok u ↦ pushed (contents self.old) entry ≡ Ok (contents self.new) | Err f ↦ pushed (contents self.old) entry ≡ Err f ] }
+    pub(crate) fn push(&mut self, entry: Entry) -> Result<(), EditRefusal>
+        ensures { Pushed self.old entry self.new result }
     {
-        let at = self.count;
-        if at >= 64 {
+        let at = self.entries().len();
+        if at >= CAPACITY {
             return Err(EditRefusal::Full);
         }
         self.entries[at] = entry;
@@ -23,16 +22,16 @@ impl Journal {
         Ok(())
     }
 
-    // The journal with an entry more; a full one is refused.
+    /// The journal with an entry more; a full one is refused.
     pub fn with_entry(&self, entry: Entry) -> Result<Journal, EditRefusal>
         ensures { edited result ≡ pushed (contents self.now) entry }
     {
-        let mut next = self.copied();
+        let mut next = *self;
         next.push(entry)?;
         Ok(next)
     }
 
-    // The journal with a key more; a code above 255 is refused before a full journal.
+    /// The journal with a key more; a code above 255 is refused before a full journal.
     pub fn with_key(&self, code: u32) -> Result<Journal, EditRefusal>
         ensures { edited result ≡ keyed (contents self.now) code }
     {
@@ -40,7 +39,7 @@ impl Journal {
         self.with_entry(Entry::Key { code })
     }
 
-    // The journal with a tap more; a fare or balance above 65,535 is refused before a full journal.
+    /// The journal with a tap more; a fare or balance above 65,535 is refused before a full journal.
     pub fn with_tap(&self, card: u32, fare: u32, balance: u32) -> Result<Journal, EditRefusal>
         ensures { edited result ≡ tapped (contents self.now) card fare balance }
     {

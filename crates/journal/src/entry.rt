@@ -1,8 +1,8 @@
-// An entry of a journal, and its bytes.
+//! An entry of a journal, and its bytes.
 ghost use Rattle.std.specs.Prelude.{◌≡◌, ◌≤◌, ◌++◌, length, drop, None, Some, MatchOption};
 ghost use Rattle.journal.specs.Entries.{entry_bytes, entry_at};
 
-// A key that the driver pressed, or a tap of a card with its fare and the balance left, in cents.
+/// A key that the driver pressed, or a tap of a card with its fare and the balance left, in cents.
 #[derive(Clone, Copy, PartialEq, Eq, Debug)]
 pub enum Entry {
     Key { code: u8 },
@@ -10,7 +10,7 @@ pub enum Entry {
 }
 
 impl Entry {
-    // How many bytes an entry has.
+    /// How many bytes an entry has.
     pub(crate) fn width(self) -> usize
         ensures { result ≡ length (entry_bytes self) }
     {
@@ -20,7 +20,7 @@ impl Entry {
         }
     }
 
-    // The entry at the front of `bytes` and what lies behind it, if a whole one is there.
+    /// The entry at the front of `bytes` and what lies behind it, if a whole one is there.
     pub(crate) fn read(bytes: &[u8]) -> Option<(Entry, &[u8])>
         ensures { MatchOption result (entry_at bytes.now ≡ None) (λ p. (entry_at bytes.now ≡ Some p.0) × (p.1.now ≡ drop (length (entry_bytes p.0)) bytes.now)) }
     {
@@ -43,7 +43,8 @@ impl Entry {
         }
     }
 
-    // Writes the entry at the front of `out`.
+    /// Writes the entry at the front of `out`.
+    // Stays: a range is the plain form of a part of known length; `first_chunk_mut` would need an `unwrap`.
     pub(crate) fn put(self, out: &mut [u8])
         requires { length (entry_bytes self) ≤ length out.old }
         ensures { out.new ≡ entry_bytes self ++ drop (length (entry_bytes self)) out.old }

@@ -1,4 +1,4 @@
-// A journal as a kind of state.
+//! A journal as a kind of state.
 ghost use Rattle.std.specs.Prelude.{◌≡◌, ◌≤◌, ◌++◌, length, drop};
 ghost use Rattle.journal.specs.Entries.{entries_bytes};
 ghost use Rattle.journal.specs.Journals.{journal_kind, reading as contents, Taken};
@@ -6,55 +6,30 @@ ghost use Rattle.journal.specs.Rows.{journal_exact, journal_itself, journal_onwa
 ghost use Rattle.journal.specs.Bytes.{journal_reaches};
 
 use crate::entry::Entry;
-use crate::journal::Journal;
+use crate::journal::{CAPACITY, Journal};
 use state::fault::{DiffRefusal, StateFault};
 use state::state::State;
 
 impl Journal {
-    // The entries, themselves and not a copy.
+    /// The entries, themselves and not a copy.
     pub fn entries(&self) -> &[Entry]
         ensures value { result.now ≡ (contents self.now).0 }
         ensures bound { length result.now ≤ 64 }
     {
-        if self.count <= 64 {
-            &self.entries[..self.count]
-        } else {
-            &[]
-        }
+        self.entries.get(..self.count).unwrap_or(&[])
     }
 
-    // A journal of the same entries, with nothing beyond them.
-    pub(crate) fn copied(&self) -> Journal
-        ensures same { contents result ≡ contents self.now }
-        ensures bound { result.count ≤ 64 }
-        ensures whole { length result.entries ≡ 64 }
-    {
-        let held = self.entries();
-        let mut entries = [Entry::Key { code: 0 }; 64];
-        entries[..held.len()].copy_from_slice(held);
-        Journal {
-            entries,
-            count: held.len(),
-        }
-    }
-
-    // Takes the entries of a diff in, some of which a refusal may leave.
+    /// Takes the entries of a diff in, some of which a refusal may leave.
     fn take_entries(&mut self, d: &[u8]) -> Result<(), StateFault>
-        requires { (self.old.count ≤ 64) × (length self.old.entries ≡ 64) }
         ensures { Taken self.old d.now self.new result }
     {
         let mut rest = d;
         let mut full = None;
-        // Stays: nothing is counted, since the place is how much is gone; an iterator of entries would need that place beside each, and a case for a bad one.
+        // Stays: nothing is counted, since the place is how much is gone; an iterator would have to hand that place on beside each entry, and the one that can't be read as well. The screen's `redraw` is alike, but tells another fault and stops at it.
         while !rest.is_empty() {
             let at = d.len() - rest.len();
-            let Some((entry, behind)) = Entry::read(rest) else {
-                return Err(StateFault::BadEntry { at });
-            };
-            if self.count < 64 {
-                self.entries[self.count] = entry;
-                self.count += 1;
-            } else {
+            let (entry, behind) = Entry::read(rest).ok_or(StateFault::BadEntry { at })?;
+            if self.push(entry).is_err() {
                 full = full.or(Some(at));
             }
             rest = behind;
@@ -66,7 +41,7 @@ impl Journal {
     }
 }
 
-// How many bytes the entries have.
+/// How many bytes the entries have.
 fn bytes_of(entries: &[Entry]) -> usize
     requires { length entries.now ≤ 64 }
     ensures { result ≡ length (entries_bytes entries.now) }
@@ -74,15 +49,16 @@ fn bytes_of(entries: &[Entry]) -> usize
     entries.iter().map(|entry| entry.width()).sum()
 }
 
-// Writes the entries one after the other at the front of `out`.
+/// Writes the entries one after the other at the front of `out`.
 fn put_all(entries: &[Entry], out: &mut [u8])
     requires { length (entries_bytes entries.now) ≤ length out.old }
     ensures { out.new ≡ entries_bytes entries.now ++ drop (length (entries_bytes entries.now)) out.old }
 {
-    if let [first, others @ ..] = entries {
-        let (front, rest) = out.split_at_mut(first.width());
-        first.put(front);
-        put_all(others, rest);
+    // Stays: a loop that hands on the rest of the buffer was tried, and what it writes is lost at the return; `packet`'s writer is its own, since a public one could ask nothing of its callers.
+    let mut at = 0;
+    for entry in entries {
+        entry.put(&mut out[at..]);
+        at += entry.width();
     }
 }
 
@@ -101,7 +77,7 @@ impl State for Journal {
 
     fn start() -> Journal {
         Journal {
-            entries: [Entry::Key { code: 0 }; 64],
+            entries: [Entry::Key { code: 0 }; CAPACITY],
             count: 0,
         }
     }
@@ -138,7 +114,7 @@ impl State for Journal {
     }
 
     fn apply(&mut self, d: &[u8]) -> Result<(), StateFault> {
-        let mut next = self.copied();
+        let mut next = *self;
         next.take_entries(d)?;
         *self = next;
         Ok(())

@@ -1,4 +1,4 @@
-// The reader's journal: keys and taps in the order in which they came.
+//! The reader's journal: keys and taps in the order in which they came.
 #![tactic(auto)]
 
 pub mod edit;

@@ -1,5 +1,5 @@
 -- The number of each refusal to send an instruction or to take what was sent.
-use Rattle.std.specs.Prelude.{ℕ, List, ◌++◌, codes, decimal}
+use Rattle.std.specs.Prelude.{ℕ}
 use Rattle.packet.specs.declared.refusal.SendRefusal.{SendRefusal}
 use Rattle.packet.specs.declared.refusal.SendRefusal.TheVariants.{ShortBuffer, LongDiff}
 use Rattle.packet.specs.declared.refusal.DatagramFault.{DatagramFault}
@@ -36,7 +36,3 @@ abbrev pub instruction_fault_of : InstructionFault → ℕ
 instruction_fault_of NotAnInstruction = 14
 instruction_fault_of NumbersApart = 15
 instruction_fault_of AckAhead = 16
-
--- a refusal as it is printed: `no` and its number
-abbrev pub refusal_text : ℕ → List ℕ
-refusal_text n = codes "no" ++ decimal n

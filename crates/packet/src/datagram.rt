@@ -1,4 +1,4 @@
-// A datagram: one fragment on its way toward the reader or the depot.
+//! A datagram: one fragment on its way toward the reader or the depot.
 ghost use Rattle.std.specs.Prelude.{◌≡◌, ◌+◌, ◌<◌, ◌≤◌, length, drop, Ok, Err, MatchResult};
 ghost use Rattle.packet.specs.Datagrams.{top_bit, top_of, direction_of, parcel_of, datagram_bytes, read_datagram};
 ghost use Rattle.packet.specs.Eight.{of_eight};
@@ -8,26 +8,27 @@ use crate::bytes::Writer;
 use crate::fragment::Fragment;
 use crate::refusal::{DatagramFault, ReadFault};
 
-// The way that a datagram goes.
+/// The way that a datagram goes.
 #[derive(Clone, Copy, PartialEq, Eq, Debug)]
 pub enum Direction {
     TowardDepot,
     TowardReader,
 }
 
-// The bit of the first eight bytes that is set toward the reader; the number is below it.
+/// The bit of the first eight bytes that is set toward the reader; the number is below it.
 pub(crate) const TOP: u64 = 0x8000_0000_0000_0000;
 
-// The lengths of the shortest and the longest datagram.
+/// The length of the shortest datagram.
 const SHORTEST: usize = 22;
 
-const LONGEST: usize = 278;
+/// The length of the longest datagram, which each of a sending is but the last.
+pub const LONGEST: usize = 278;
 
-// The four bytes between the datagram's number and its fragment, which no rule reads.
+/// The four bytes between the datagram's number and its fragment, which no rule reads.
 const UNREAD: [u8; 4] = [0xFF; 4];
 
 impl Direction {
-    // The direction that the first eight bytes carry.
+    /// The direction that the first eight bytes carry.
     // Stays: a `From<u64>` would offer to everyone, for every number, what is meant of a datagram's first eight bytes alone.
     fn of(word: u64) -> Direction
         ensures { result ≡ direction_of word }
@@ -39,7 +40,7 @@ impl Direction {
         }
     }
 
-    // Its top bit.
+    /// Its top bit.
     fn top(self) -> u64
         ensures { result ≡ top_of self }
     {
@@ -50,7 +51,7 @@ impl Direction {
     }
 }
 
-// A fragment with the direction in which it goes and the datagram's number.
+/// A fragment with the direction in which it goes and the datagram's number.
 #[derive(Clone, Copy, PartialEq, Eq, Debug)]
 pub struct Datagram<'a> {
     pub direction: Direction,
@@ -59,7 +60,7 @@ pub struct Datagram<'a> {
 }
 
 impl<'a> Datagram<'a> {
-    // Reads a datagram for an end that itself sends in the direction `sends`.
+    /// Reads a datagram for an end that itself sends in the direction `sends`.
     pub fn read(bytes: &'a [u8], sends: Direction) -> Result<Datagram<'a>, ReadFault>
         ensures { MatchResult result (λ d. read_datagram sends bytes.now ≡ Ok (parcel_of d)) (λ f. read_datagram sends bytes.now ≡ Err f) }
     {
@@ -78,7 +79,7 @@ impl<'a> Datagram<'a> {
         })
     }
 
-    // The number that the first eight bytes write, and what lies behind the unread bytes.
+    /// The number that the first eight bytes write, and what lies behind the unread bytes.
     fn parts(bytes: &'a [u8]) -> (u64, &'a [u8])
         requires { 12 ≤ length bytes.now }
         ensures { (result.0 ≡ of_eight bytes.now 0) × (result.1.now ≡ drop 12 bytes.now) }
@@ -87,7 +88,7 @@ impl<'a> Datagram<'a> {
         (u64::from_be_bytes(*word), &rest[UNREAD.len()..])
     }
 
-    // Writes the datagram.
+    /// Writes the datagram.
     pub(crate) fn write(&self, writer: &mut Writer<'_>)
         requires { (self.now.number < top_bit) × (22 + length self.now.fragment.contents.now ≤ length (rest writer.old)) }
         ensures { Adds writer.old (datagram_bytes (parcel_of self.now)) writer.new }

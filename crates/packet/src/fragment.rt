@@ -1,4 +1,4 @@
-// A fragment: a piece of one sending's instruction.
+//! A fragment: a piece of one sending's instruction.
 ghost use Rattle.std.specs.Prelude.{◌≡◌, ◌+◌, ◌≤◌, false, length, Ok, Err, MatchOption, MatchResult};
 ghost use Rattle.packet.specs.Pieces.{piece_of};
 ghost use Rattle.packet.specs.Fragments.{field_of, fragment_bytes, piece_in, sound, read_fragment};
@@ -7,7 +7,7 @@ ghost use Rattle.packet.specs.Writes.{rest, Adds};
 use crate::bytes::Writer;
 use crate::refusal::FragmentFault;
 
-// The piece `number` of the instruction of a sending; `last` marks the one at its end.
+/// The piece `number` of the instruction of a sending; `last` marks the one at its end.
 #[derive(Clone, Copy, PartialEq, Eq, Debug)]
 pub struct Fragment<'a> {
     pub sending: u64,
@@ -16,11 +16,11 @@ pub struct Fragment<'a> {
     pub contents: &'a [u8],
 }
 
-// The bit of the 16-bit field that marks the last fragment.
+/// The bit of the 16-bit field that marks the last fragment.
 const LAST: u16 = 0x8000;
 
 impl<'a> Fragment<'a> {
-    // Reads a fragment, whose contents stay where they lie.
+    /// Reads a fragment, whose contents stay where they lie.
     pub fn read(bytes: &'a [u8]) -> Result<Fragment<'a>, FragmentFault>
         ensures { MatchResult result (λ f. read_fragment bytes.now ≡ Ok (piece_of f)) (λ e. read_fragment bytes.now ≡ Err e) }
     {
@@ -30,7 +30,7 @@ impl<'a> Fragment<'a> {
         }
     }
 
-    // The fields and the contents, unless bytes are missing or the number is no `u8`.
+    /// The fields and the contents, unless bytes are missing or the number is no `u8`.
     fn fields(bytes: &'a [u8]) -> Option<Fragment<'a>>
         ensures { MatchOption result (sound (piece_in bytes.now) ≡ false) (λ f. piece_of f ≡ piece_in bytes.now) }
     {
@@ -48,7 +48,7 @@ impl<'a> Fragment<'a> {
         })
     }
 
-    // Whether it can be the last piece of an instruction, or if it isn't marked so, an earlier one.
+    /// Whether it can be the last piece of an instruction, or if it isn't marked so, an earlier one.
     pub fn is_sound(&self) -> bool
         ensures { result ≡ sound (piece_of self.now) }
     {
@@ -59,7 +59,7 @@ impl<'a> Fragment<'a> {
         }
     }
 
-    // Writes the fragment.
+    /// Writes the fragment.
     pub(crate) fn write(&self, writer: &mut Writer<'_>)
         requires { 10 + length self.now.contents.now ≤ length (rest writer.old) }
         ensures { Adds writer.old (fragment_bytes (piece_of self.now)) writer.new }
@@ -69,7 +69,7 @@ impl<'a> Fragment<'a> {
         writer.put(self.contents);
     }
 
-    // The 16-bit field.
+    /// The 16-bit field.
     fn field(&self) -> u16
         ensures { result ≡ field_of (piece_of self.now) }
     {

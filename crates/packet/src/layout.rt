@@ -1,7 +1,7 @@
-// What the three layouts promise.
+//! What the three layouts promise.
 ghost use Rattle.packet.specs.Layouts.{InstructionStands, FragmentStands, DatagramStands, SendingStands};
 
-// What was written is read back, and only what could have been written is read.
+/// What was written is read back, and only what could have been written is read.
 pub fn layouts_stand()
     ensures instruction { InstructionStands }
     ensures fragment { FragmentStands }

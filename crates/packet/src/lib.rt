@@ -1,4 +1,4 @@
-// What travels: an instruction, cut into fragments, each in a datagram.
+//! What travels: an instruction, cut into fragments, each in a datagram.
 #![tactic(auto)]
 
 mod bytes;

@@ -1,11 +1,12 @@
-// Why bytes are not read and why an instruction is not sent, by stage and in the order of the checks.
+//! Why bytes are not read and why an instruction is not sent, by stage and in the order of the checks.
 ghost use Rattle.std.specs.Prelude.{◌≡◌, Some};
 ghost use Rattle.packet.specs.declared.refusal.ReadFault.TheVariants.{Datagram, Fragment};
-ghost use Rattle.packet.specs.Refusals.{send_refusal_of, datagram_fault_of, fragment_fault_of, read_fault_of, instruction_fault_of, refusal_text};
+ghost use Rattle.packet.specs.Refusals.{send_refusal_of, datagram_fault_of, fragment_fault_of, read_fault_of, instruction_fault_of};
+ghost use Rattle.state.specs.Faults.{refusal_text};
 
 use std::fmt;
 
-// Why an instruction is not sent.
+/// Why an instruction is not sent.
 #[derive(Clone, Copy, PartialEq, Eq, Debug)]
 pub enum SendRefusal {
     ShortBuffer = 5,
@@ -13,7 +14,8 @@ pub enum SendRefusal {
 }
 
 impl SendRefusal {
-    // The number of the refusal.
+    // Stays: `as u8` works on an enum and not on a type parameter, so each enum has its own.
+    /// The number of the refusal.
     pub fn number(self) -> u8
         ensures { result ≡ send_refusal_of self }
     {
@@ -21,7 +23,7 @@ impl SendRefusal {
     }
 }
 
-// Stays: four impls say the same of four types, since an impl of a foreign trait for every type under a trait of ours would overlap others.
+// Stays: one impl for every refusal under a trait of ours would overlap others, and a macro that wrote the impls could not state their output.
 impl fmt::Display for SendRefusal {
     ghost output = { λ r. Some (refusal_text (send_refusal_of r)) };
 
@@ -30,7 +32,7 @@ impl fmt::Display for SendRefusal {
     }
 }
 
-// Why bytes are no datagram for this end.
+/// Why bytes are no datagram for this end.
 #[derive(Clone, Copy, PartialEq, Eq, Debug)]
 pub enum DatagramFault {
     WrongLength = 10,
@@ -38,7 +40,7 @@ pub enum DatagramFault {
 }
 
 impl DatagramFault {
-    // The number of the refusal.
+    /// The number of the refusal.
     pub fn number(self) -> u8
         ensures { result ≡ datagram_fault_of self }
     {
@@ -46,7 +48,7 @@ impl DatagramFault {
     }
 }
 
-// Why a fragment is not taken: it is none, or it contradicts one of its sending that is held.
+/// Why a fragment is not taken: it is none, or it contradicts one of its sending that is held.
 #[derive(Clone, Copy, PartialEq, Eq, Debug)]
 pub enum FragmentFault {
     Malformed = 12,
@@ -54,7 +56,7 @@ pub enum FragmentFault {
 }
 
 impl FragmentFault {
-    // The number of the refusal.
+    /// The number of the refusal.
     pub fn number(self) -> u8
         ensures { result ≡ fragment_fault_of self }
     {
@@ -70,7 +72,7 @@ impl fmt::Display for FragmentFault {
     }
 }
 
-// Why a datagram is not read: its own fault, or that of the fragment in it.
+/// Why a datagram is not read: its own fault, or that of the fragment in it.
 #[derive(Clone, Copy, PartialEq, Eq, Debug)]
 pub enum ReadFault {
     Datagram(DatagramFault),
@@ -78,7 +80,7 @@ pub enum ReadFault {
 }
 
 impl ReadFault {
-    // The number of the refusal.
+    /// The number of the refusal.
     pub fn number(self) -> u8
         ensures { result ≡ read_fault_of self }
     {
@@ -113,7 +115,7 @@ impl From<FragmentFault> for ReadFault {
     }
 }
 
-// Why an instruction is not taken: it is none, its numbers lie apart, or it acknowledges what was never sent.
+/// Why an instruction is not taken: it is none, its numbers lie apart, or it acknowledges what was never sent.
 #[derive(Clone, Copy, PartialEq, Eq, Debug)]
 pub enum InstructionFault {
     NotAnInstruction = 14,
@@ -122,7 +124,7 @@ pub enum InstructionFault {
 }
 
 impl InstructionFault {
-    // The number of the refusal.
+    /// The number of the refusal.
     pub fn number(self) -> u8
         ensures { result ≡ instruction_fault_of self }
     {

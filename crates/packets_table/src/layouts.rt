@@ -1,4 +1,4 @@
-// Rows of bytes that are read as a datagram or as an instruction.
+//! Rows of bytes that are read as a datagram or as an instruction.
 use packet::datagram::{Datagram, Direction};
 use packet::fragment::Fragment;
 use packet::instruction::Instruction;
@@ -31,7 +31,7 @@ fn show_datagram(rt: &impl Print, datagram: Datagram<'_>) -> io::Result<()> {
     println!(rt; " number {number}, sending {sending}, fragment {k}, {mark}, {length} bytes")
 }
 
-// Reads a datagram for an end that sends in the direction given.
+/// Reads a datagram for an end that sends in the direction given.
 pub(crate) fn datagram(rt: &impl Print, heap: Global, text: &str) -> io::Result<()> {
     let (word, rest) = text.split_once(' ').unwrap_or((text, ""));
     let Some(sends) = direction(word) else {
@@ -44,7 +44,7 @@ pub(crate) fn datagram(rt: &impl Print, heap: Global, text: &str) -> io::Result<
     }
 }
 
-// Reads an instruction.
+/// Reads an instruction.
 pub(crate) fn instruction(rt: &impl Print, heap: Global, text: &str) -> io::Result<()> {
     let bytes = hexadecimal::bytes(heap, text)?;
     match Instruction::read(bytes.as_slice()) {

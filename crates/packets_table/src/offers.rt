@@ -1,11 +1,11 @@
-// Rows of fragments that are offered to an assembler.
+//! Rows of fragments that are offered to an assembler.
 use assembler::assembly::Assembler;
 use assembler::offer::Offer;
 use packet::fragment::Fragment;
 use state::checksum::internet_checksum;
 use std::io;
 
-// A fragment as a row has it: its contents are `length` times the byte `fill`.
+/// A fragment as a row has it: its contents are `length` times the byte `fill`.
 #[derive(Clone, Copy)]
 struct Piece {
     sending: u64,
@@ -24,7 +24,7 @@ fn mark(word: &str) -> Option<bool> {
     }
 }
 
-// Reads `sending:number:mark:length:fill`.
+/// Reads `sending:number:mark:length:fill`.
 fn read_piece(word: &str) -> Option<Piece> {
     let mut parts = word.split(':');
     Some(Piece {
@@ -36,7 +36,7 @@ fn read_piece(word: &str) -> Option<Piece> {
     })
 }
 
-// Prints the length of an instruction's bytes, and the checksum of each 256 of them.
+/// Prints the length of an instruction's bytes, and the checksum of each 256 of them.
 fn show_sums(rt: &impl Print, bytes: &[u8]) -> io::Result<()> {
     let length = bytes.len();
     print!(rt; " whole of {length} with sums")?;
@@ -47,7 +47,7 @@ fn show_sums(rt: &impl Print, bytes: &[u8]) -> io::Result<()> {
     print!(rt; ";")
 }
 
-// Offers a fragment, and prints the answer; `show` prints the bytes of an instruction that it makes whole.
+/// Offers a fragment, and prints the answer; `show` prints the bytes of an instruction that it makes whole.
 pub(crate) fn offer_to<F: FnOnce(&[u8]) -> io::Result<()>>(
     rt: &impl Print,
     assembler: &mut Assembler,
@@ -67,7 +67,7 @@ pub(crate) fn offer_to<F: FnOnce(&[u8]) -> io::Result<()>>(
     }
 }
 
-// Offers the fragment of a row.
+/// Offers the fragment of a row.
 fn offer_piece(rt: &impl Print, assembler: &mut Assembler, piece: Piece) -> io::Result<()> {
     let filled = [piece.fill; 300];
     let Some(contents) = filled.get(..piece.length) else {
@@ -82,7 +82,7 @@ fn offer_piece(rt: &impl Print, assembler: &mut Assembler, piece: Piece) -> io::
     offer_to(rt, assembler, fragment, |bytes| show_sums(rt, bytes))
 }
 
-// Offers fragments to one assembler; the word `clear` drops what it holds.
+/// Offers fragments to one assembler; the word `clear` drops what it holds.
 pub(crate) fn offer(rt: &impl Print, text: &str) -> io::Result<()> {
     let mut assembler = Assembler::new();
     for word in text.split(' ') {

@@ -7,7 +7,8 @@ use Rattle.window.specs.Numbers.{empty, adding}
 use Rattle.packet.specs.declared.datagram.Direction.{Direction}
 use Rattle.protocol.specs.declared.answer.Ticked.{Ticked}
 use Rattle.protocol.specs.declared.fault.TickRefusal.{TickRefusal}
-use Rattle.protocol.specs.declared.fault.TickRefusal.TheVariants.{LateTime, WrongStore, ShortBuffer, NotFollowing, NoSendingsLeft, LongDiff}
+use Rattle.protocol.specs.declared.fault.CallRefusal.TheVariants.{LateTime, WrongStore}
+use Rattle.protocol.specs.declared.fault.TickRefusal.TheVariants.{Call, ShortBuffer, NotFollowing, NoSendingsLeft, LongDiff}
 use Rattle.protocol.specs.End.{End, Holding, latest, both_fit, state_at, fresh, opened, changed}
 use Rattle.protocol.specs.Due.{due}
 use Rattle.protocol.specs.Ticking.{AfterTick, facts, fixes, new_number, new_state, top_state, assumed, assumed_state, update, ticked}
@@ -134,8 +135,8 @@ module _ (K L : Kind) (itself : Itself K) (onto : Onward K) where
           (λ _. cond_both (not d) _ _ Other (λ _. answered _)
           (λ _. cond_both (leb (length (update K h.end h.sent_store now).diff) 2031) _ _ Other (λ _. answered _) (λ _. other LongDiff refl)))))
           (λ _. other ShortBuffer refl))
-          (λ _. other WrongStore refl))
-          (λ _. other LateTime refl)
+          (λ _. other (Call WrongStore) refl))
+          (λ _. other (Call LateTime) refl)
         where
           now : ℕ
           now = max h.end.tally.clock time
@@ -154,8 +155,7 @@ module _ (K L : Kind) (itself : Itself K) (onto : Onward K) where
 
           -- whether a refusal is that of a target which doesn't follow
           is_apart : TickRefusal → Bool
-          is_apart LateTime = false
-          is_apart WrongStore = false
+          is_apart (Call f) = false
           is_apart ShortBuffer = false
           is_apart NotFollowing = true
           is_apart NoSendingsLeft = false

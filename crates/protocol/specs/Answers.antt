@@ -1,5 +1,6 @@
 -- What every answer of an end's calls says: its word and its n, and the number of every refusal.
-use Rattle.std.specs.Prelude.{ℕ, List, ◌++◌, Ok, Err, codes, decimal, Result}
+use Rattle.std.specs.Prelude.{ℕ, List, Ok, Err, codes, Result}
+use Rattle.state.specs.Faults.{refusal_text}
 use Rattle.packet.specs.Refusals.{datagram_fault_of, fragment_fault_of, instruction_fault_of}
 use Rattle.protocol.specs.declared.answer.Ticked.{Ticked}
 use Rattle.protocol.specs.declared.answer.Ticked.TheVariants.{Idle, Sent}
@@ -37,7 +38,7 @@ abbrev pub done_told : Told
 done_told = record { word = codes "ok"; n = 0 }
 
 abbrev pub refused_told : ℕ → Told
-refused_told number = record { word = codes "no" ++ decimal number; n = 0 }
+refused_told number = record { word = refusal_text number; n = 0 }
 
 -- a time above 4,000,000,000; a store that isn't 16 states long
 abbrev pub call_refusal_of : CallRefusal → ℕ
@@ -48,10 +49,9 @@ call_refusal_of call.WrongStore = 5
 abbrev pub change_refusal_of : ChangeRefusal → ℕ
 change_refusal_of change.NotFollowing = 7
 
--- as of a call; a buffer under 2,224 bytes; a new state that doesn't follow the old one; no sending left of 1,000,000; a diff over 2,031 bytes
+-- of the call; a buffer under 2,224 bytes; a new state that doesn't follow the old one; no sending left of 1,000,000; a diff over 2,031 bytes
 abbrev pub tick_refusal_of : TickRefusal → ℕ
-tick_refusal_of tick.LateTime = 4
-tick_refusal_of tick.WrongStore = 5
+tick_refusal_of (tick.Call f) = call_refusal_of f
 tick_refusal_of tick.ShortBuffer = 5
 tick_refusal_of tick.NotFollowing = 7
 tick_refusal_of tick.NoSendingsLeft = 8

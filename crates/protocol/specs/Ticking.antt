@@ -9,7 +9,8 @@ use Rattle.packet.specs.Sendings.{sent_into, sending_bytes}
 use Rattle.protocol.specs.declared.answer.Ticked.{Ticked}
 use Rattle.protocol.specs.declared.answer.Ticked.TheVariants.{Idle, Sent}
 use Rattle.protocol.specs.declared.fault.TickRefusal.{TickRefusal}
-use Rattle.protocol.specs.declared.fault.TickRefusal.TheVariants.{LateTime, WrongStore, ShortBuffer, NotFollowing, NoSendingsLeft, LongDiff}
+use Rattle.protocol.specs.declared.fault.CallRefusal.TheVariants.{LateTime, WrongStore}
+use Rattle.protocol.specs.declared.fault.TickRefusal.TheVariants.{Call, ShortBuffer, NotFollowing, NoSendingsLeft, LongDiff}
 use Rattle.protocol.specs.Due.{Facts, due, patience, since}
 use Rattle.protocol.specs.End.{Outgoing, Incoming, Tally, End, Holding, latest, both_fit, state_at}
 
@@ -164,5 +165,5 @@ ticked K L h time out =
     cond (nat_le time latest)
     (cond (both_fit h.sent_store h.received_store)
     (cond (nat_le 2224 (length out)) (judged K h.end h.sent_store out (max h.end.tally.clock time)) (refused ShortBuffer))
-    (refused WrongStore))
-    (refused LateTime)
+    (refused (Call WrongStore)))
+    (refused (Call LateTime))

@@ -1,30 +1,31 @@
-// What the calls of an end answer.
-ghost use Rattle.std.specs.Prelude.{◌≡◌};
+//! What the calls of an end answer.
+ghost use Rattle.std.specs.Prelude.{◌≡◌, Some};
 ghost use Rattle.protocol.specs.Answers.{tick_told, take_told};
 
 use packet::sending::Sent;
+use std::fmt;
 
-// What a tick did: nothing was due, or an instruction went out.
-// Stays: `Option<Sent>` has as many cases, but the answer's words, idle and sent, are methods of its own type, as those of `Taken` are.
+/// What a tick did: nothing was due, or an instruction went out.
+// Stays: `Option<Sent>` has as many cases, but its `Display` and its `n` would not be those of a tick's answer, which are told beside those of `Taken`.
 #[derive(Clone, Copy, PartialEq, Eq, Debug)]
 pub enum Ticked {
     Idle,
     Sent { sent: Sent },
 }
 
-impl Ticked {
-    // The word for it.
-    // Stays: a caller has the word as a value, to list or to compare, where `Display` would only write it.
-    pub fn word(self) -> &'static str
-        ensures { result.now ≡ (tick_told self).word }
-    {
+impl fmt::Display for Ticked {
+    ghost output = { λ t. Some (tick_told t).word };
+
+    fn fmt<W: fmt::Write>(&self, f: &mut fmt::Formatter<W>) -> fmt::Result {
         match self {
-            Ticked::Idle => "idle",
-            Ticked::Sent { .. } => "sent",
+            Ticked::Idle => f.write_str("idle"),
+            Ticked::Sent { .. } => f.write_str("sent"),
         }
     }
+}
 
-    // The number beside the word: how many datagrams were sent.
+impl Ticked {
+    /// The number beside the word: how many datagrams were sent.
     pub fn n(self) -> usize
         ensures { result ≡ (tick_told self).n }
     {
@@ -35,7 +36,7 @@ impl Ticked {
     }
 }
 
-// What a take did: a fragment more of an instruction, or what became of an instruction's new number.
+/// What a take did: a fragment more of an instruction, or what became of an instruction's new number.
 #[derive(Clone, Copy, PartialEq, Eq, Debug)]
 pub enum Taken {
     Part { fragment: u8 },
@@ -45,22 +46,22 @@ pub enum Taken {
     Baseless { new: u32 },
 }
 
-impl Taken {
-    // The word for it.
-    // Stays: a caller has the word as a value, to list or to compare, where `Display` would only write it.
-    pub fn word(self) -> &'static str
-        ensures { result.now ≡ (take_told self).word }
-    {
+impl fmt::Display for Taken {
+    ghost output = { λ t. Some (take_told t).word };
+
+    fn fmt<W: fmt::Write>(&self, f: &mut fmt::Formatter<W>) -> fmt::Result {
         match self {
-            Taken::Part { .. } => "part",
-            Taken::Shown { .. } => "shown",
-            Taken::Filled { .. } => "filled",
-            Taken::Again { .. } => "again",
-            Taken::Baseless { .. } => "baseless",
+            Taken::Part { .. } => f.write_str("part"),
+            Taken::Shown { .. } => f.write_str("shown"),
+            Taken::Filled { .. } => f.write_str("filled"),
+            Taken::Again { .. } => f.write_str("again"),
+            Taken::Baseless { .. } => f.write_str("baseless"),
         }
     }
+}
 
-    // The number beside the word: the fragment's, or the instruction's new one.
+impl Taken {
+    /// The number beside the word: the fragment's, or the instruction's new one.
     pub fn n(self) -> u32
         ensures { result ≡ (take_told self).n }
     {

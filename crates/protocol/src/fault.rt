@@ -1,4 +1,4 @@
-// Why the calls of an end refuse.
+//! Why the calls of an end refuse.
 ghost use Rattle.std.specs.Prelude.{◌≡◌};
 ghost use Rattle.protocol.specs.declared.fault.TakeFault.TheVariants.{Fragment, Instruction, State};
 ghost use Rattle.protocol.specs.Stages.{read_stage};
@@ -7,7 +7,7 @@ ghost use Rattle.protocol.specs.Answers.{call_refusal_of, change_refusal_of, tic
 use packet::refusal::{DatagramFault, FragmentFault, InstructionFault, ReadFault};
 use state::fault::StateFault;
 
-// The call itself: its time is too late, or a store that it is lent has not 16 states.
+/// The call itself: its time is too late, or a store that it is lent has not 16 states.
 #[derive(Clone, Copy, PartialEq, Eq, Debug)]
 pub enum CallRefusal {
     LateTime = 4,
@@ -15,6 +15,7 @@ pub enum CallRefusal {
 }
 
 impl CallRefusal {
+    // Stays: `as u8` works on an enum and not on a type parameter, so each enum has its own.
     pub fn number(self) -> u8
         ensures { result ≡ call_refusal_of self }
     {
@@ -22,7 +23,7 @@ impl CallRefusal {
     }
 }
 
-// Why a change is refused.
+/// Why a change is refused.
 #[derive(Clone, Copy, PartialEq, Eq, Debug)]
 pub enum ChangeRefusal {
     NotFollowing = 7,
@@ -36,11 +37,10 @@ impl ChangeRefusal {
     }
 }
 
-// Why a tick is refused.
+/// Why a tick is refused; the call's own refusal is held whole.
 #[derive(Clone, Copy, PartialEq, Eq, Debug)]
 pub enum TickRefusal {
-    LateTime,
-    WrongStore,
+    Call(CallRefusal),
     ShortBuffer,
     NotFollowing,
     NoSendingsLeft,
@@ -48,13 +48,12 @@ pub enum TickRefusal {
 }
 
 impl TickRefusal {
-    // Stays: two of the cases have one number, which no discriminants can say.
     pub fn number(self) -> u8
         ensures { result ≡ tick_refusal_of self }
     {
         match self {
-            TickRefusal::LateTime => 4,
-            TickRefusal::WrongStore | TickRefusal::ShortBuffer => 5,
+            TickRefusal::Call(refusal) => refusal.number(),
+            TickRefusal::ShortBuffer => 5,
             TickRefusal::NotFollowing => 7,
             TickRefusal::NoSendingsLeft => 8,
             TickRefusal::LongDiff => 9,
@@ -62,7 +61,7 @@ impl TickRefusal {
     }
 }
 
-// Why a take is refused, by the stage that refuses; the state's fault is held whole.
+/// Why a take is refused, by the stage that refuses; the state's fault is held whole.
 #[derive(Clone, Copy, PartialEq, Eq, Debug)]
 pub enum TakeFault {
     Call(CallRefusal),

@@ -1,4 +1,4 @@
-// An end of the protocol, defined: what its calls answer, why they refuse, and theorems of the definitions.
+//! An end of the protocol, defined: what its calls answer, why they refuse, and theorems of the definitions.
 #![tactic(auto)]
 
 pub mod answer;

@@ -1,4 +1,4 @@
-// Runs of two ends, and the law of a session.
+//! Runs of two ends, and the law of a session.
 #![tactic(auto)]
 
 pub mod law;

@@ -2,7 +2,7 @@
 use Rattle.std.specs.Prelude.{◌≡◌, ℕ, zero, suc, ◌+◌, ◌-◌, ◌*◌, ◌%◌, ◌<◌, ◌≤◌, Bool, true, false, not, ◌&&◌, List, [], ◌∷◌, ◌++◌, length, take, drop, ◌==◌, ◌≢◌}
 use Rattle.std.specs.List.{concat, sum_by}
 use Rattle.std.proofs.Math.Path.{refl, sym, ap}
-use Rattle.std.proofs.Common.{◌∙◌, ⊎_elim}
+use Rattle.std.proofs.Common.{◌∙◌, append_assoc, ⊎_elim}
 use native.Mathlib.Omega.{arith}
 use Rattle.std.proofs.lemmas.List.{length-append, length-take}
 use Rattle.std.proofs.lemmas.List.Concat.{concat_is, length-flat_map}
@@ -75,9 +75,31 @@ module _ (b t : List ℕ) where
       let at : i + 1 - 1 ≡ i = omega arith in
       and_true (differ b t (i + 1)) _ (or_right ((i + 1) % 40 == 0) (not (differ b t (i + 1 - 1))) (not_from_false (differ b t (i + 1 - 1)) (ap (differ b t) at ∙ e)))
 
+  pub runs_at : {i i' n n' : ℕ} → i ≡ i' → n ≡ n' → runs_from b t i n ≡ runs_from b t i' n'
+  runs_at {i} {i'} {n} {n'} p q = ap (λ j. runs_from b t j n) p ∙ ap (runs_from b t i') q
+
   pub runs_none : (i : ℕ) → runs_from b t i 0 ≡ []
   unfolding runs_from
   runs_none i = refl
+
+  -- positions at which none begins add nothing
+  pub runs_quiet : (k i n : ℕ) → k ≤ n → ((x : ℕ) → i ≤ x → x < i + k → begins b t x ≡ false) → runs_from b t i n ≡ runs_from b t (i + k) (n - k)
+  unfolding runs_from
+  runs_quiet zero i n h q = runs_at (omega arith) (omega arith)
+  runs_quiet (suc k) i zero h q = absurd (omega arith)
+  runs_quiet (suc k) i (suc n) h q =
+      ap (λ r. r ++ runs_from b t (i + 1) n) (cond-false (begins b t i) _ _ (q i (omega arith) (omega arith)))
+      ∙ runs_quiet k (i + 1) n (omega arith) (λ x l m. q x (omega arith) (omega arith))
+      ∙ runs_at (omega arith) (omega arith)
+
+  -- the runs of the first n positions, and those behind
+  pub runs_split : (i n m : ℕ) → runs_from b t i (n + m) ≡ runs_from b t i n ++ runs_from b t (i + n) m
+  unfolding runs_from
+  runs_split i zero m = runs_at (omega arith) (omega arith)
+  runs_split i (suc n) m =
+      runs_at {i = i} {i' = i} {n = suc n + m} {n' = suc (n + m)} refl (omega arith)
+      ∙ ap (λ r. run_at b t i ++ r) (runs_split (i + 1) n m ∙ ap (λ r. runs_from b t (i + 1) n ++ r) (runs_at (omega arith) refl))
+      ∙ sym (append_assoc (run_at b t i) (runs_from b t (i + 1) n) (runs_from b t (i + suc n) m))
 
   -- a run has at most 43 bytes
   pub run_bytes_lem : (i : ℕ) → length (run_at b t i) ≤ 43

@@ -1,4 +1,4 @@
-// The kind of state Screen: eight rows of forty characters and a cursor.
+//! The kind of state Screen: eight rows of forty characters and a cursor.
 #![tactic(auto)]
 
 mod runs;

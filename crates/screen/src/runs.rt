@@ -1,19 +1,19 @@
-// The cells of screens, and the runs of cells in which two screens differ.
+//! The cells of screens, and the runs of cells in which two screens differ.
 ghost use Rattle.std.specs.Prelude.{◌≡◌, ℕ, ◌+◌, ◌-◌, ◌*◌, ◌%◌, ◌<◌, ◌≤◌, ◌++◌, length, drop, Ok, Err};
 ghost use Rattle.std.specs.Iterator.{YieldsFirstBy, item_count};
 ghost use Rattle.screen.specs.Runs.{is_character, all_characters, differ, begins, run_length, run_bytes, runs_from, runs_listed, fits, redrawn};
 
 use state::fault::StateFault;
 
-// A screen has eight rows of forty cells.
+/// A screen has eight rows of forty cells.
 pub(crate) const ROWS: usize = 8;
 
 pub(crate) const COLUMNS: usize = 40;
 
 pub(crate) const CELLS: usize = 320;
 
-// The cells of a screen, row by row.
-// Stays: an array of bytes, since a state is a plain copied value with no invariant in its type.
+/// The cells of a screen, row by row.
+// Stays: no heap and no invariant in the type of a state, by a rule of the project: `contents_of` gives every value of these cells contents.
 pub(crate) type Cells = [u8; CELLS];
 
 pub(crate) fn is_character(x: u8) -> bool
@@ -28,7 +28,7 @@ pub(crate) fn all_characters(cells: &[u8]) -> bool
     cells.iter().all(|x| is_character(*x))
 }
 
-// A run of cells in one row: the position of the first, and the characters.
+/// A run of cells in one row: the position of the first, and the characters.
 #[derive(Clone, Copy)]
 pub(crate) struct Run<'a> {
     position: usize,
@@ -40,21 +40,21 @@ pub(crate) struct Run<'a> {
 impl<'a> Run<'a> {
     ghost use Rattle.screen.specs.Steps.{RunRead};
 
-    // The position behind the last cell.
+    /// The position behind the last cell.
     fn end(self) -> usize
         ensures { result ≡ self.entry.position + length self.entry.characters.now }
     {
         self.position + self.characters.len()
     }
 
-    // How many bytes tell the run.
+    /// How many bytes tell the run.
     fn size(self) -> usize
         ensures { result ≡ 3 + length self.entry.characters.now }
     {
         3 + self.characters.len()
     }
 
-    // Writes the bytes that tell the run, which fill `out`.
+    /// Writes the bytes that tell the run, which fill `out`.
     fn write(self, out: &mut [u8])
         requires { length out.old ≡ 3 + length self.characters.now }
         ensures { out.new ≡ run_bytes self.entry.position self.entry.characters.now }
@@ -65,7 +65,7 @@ impl<'a> Run<'a> {
         out[3..].copy_from_slice(self.characters);
     }
 
-    // The run that `bytes` begin with and the bytes behind it, if it is a good one; cells before `free` are taken.
+    /// The run that `bytes` begin with and the bytes behind it, if it is a good one; cells before `free` are taken.
     fn read(bytes: &'a [u8], free: usize) -> Option<(Run<'a>, &'a [u8])>
         ensures { RunRead free bytes.now result }
     {
@@ -84,7 +84,7 @@ impl<'a> Run<'a> {
     }
 }
 
-// Whether a run may have this place and length, where cells before `free` are taken.
+/// Whether a run may have this place and length, where cells before `free` are taken.
 fn run_fits(free: usize, row: u8, column: u8, count: u8) -> bool
     ensures { result ≡ fits free row column count }
 {
@@ -94,7 +94,7 @@ fn run_fits(free: usize, row: u8, column: u8, count: u8) -> bool
         && free <= COLUMNS * usize::from(row) + usize::from(column)
 }
 
-// What changed between two screens: the cells before, and those after.
+/// What changed between two screens: the cells before, and those after.
 #[derive(Clone, Copy)]
 pub(crate) struct Difference<'a> {
     pub(crate) old: &'a Cells,
@@ -104,7 +104,7 @@ pub(crate) struct Difference<'a> {
 impl<'a> Difference<'a> {
     ghost use Rattle.screen.specs.Steps.{FirstDiffering, runs_left};
 
-    // The first position from `from` on at which the cells differ.
+    /// The first position from `from` on at which the cells differ.
     fn first_differing(self, from: usize) -> Option<usize>
         requires { from ≤ 320 }
         ensures { FirstDiffering self.entry.old.now self.entry.new.now from result }
@@ -112,7 +112,7 @@ impl<'a> Difference<'a> {
         (from..CELLS).find(|i| self.old[*i] != self.new[*i])
     }
 
-    // Of the cells from `position` to the end of its row, how many differ before the first that do not.
+    /// Of the cells from `position` to the end of its row, how many differ before the first that do not.
     fn run_length(self, position: usize) -> usize
         requires { position < 320 }
         ensures { result ≡ run_length self.entry.old.now self.entry.new.now position }
@@ -126,7 +126,7 @@ impl<'a> Difference<'a> {
             .count()
     }
 
-    // The runs of differing cells, from the first position to the last.
+    /// The runs of differing cells, from the first position to the last.
     fn runs(self) -> Runs<'a>
         ensures { runs_left result ≡ runs_listed self.entry.old.now self.entry.new.now 0 320 }
     {
@@ -136,7 +136,7 @@ impl<'a> Difference<'a> {
         }
     }
 
-    // How many bytes tell all runs.
+    /// How many bytes tell all runs.
     pub(crate) fn size(self) -> usize
         ensures value { result ≡ length (runs_from self.entry.old.now self.entry.new.now 0 320) }
         ensures bound { result ≤ 13760 }
@@ -144,11 +144,12 @@ impl<'a> Difference<'a> {
         self.runs().map(|run| run.size()).sum()
     }
 
-    // Writes all runs at the front of `out`.
+    /// Writes all runs at the front of `out`.
     pub(crate) fn write(self, out: &mut [u8])
         requires { length (runs_from self.old.now self.new.now 0 320) ≤ length out.old }
         ensures { out.new ≡ runs_from self.entry.old.now self.entry.new.now 0 320 ++ drop (length (runs_from self.entry.old.now self.entry.new.now 0 320)) out.old }
     {
+        // Stays: as in a journal's `put_all`, what a loop writes through the rest of a buffer is lost at the return, and `packet`'s writer is its own.
         let mut at = 0;
         for run in self.runs() {
             let end = at + run.size();
@@ -158,7 +159,7 @@ impl<'a> Difference<'a> {
     }
 }
 
-// The runs of differing cells that begin at `from` or behind it.
+/// The runs of differing cells that begin at `from` or behind it.
 #[derive(Drop)]
 struct Runs<'a> {
     difference: Difference<'a>,
@@ -188,7 +189,7 @@ impl<'a> Iterator for Runs<'a> {
     }
 }
 
-// Takes all runs of a diff, which stand behind its cursor, into `cells`; after a refusal these may have some of them.
+/// Takes all runs of a diff, which stand behind its cursor, into `cells`; after a refusal these may have some of them.
 pub(crate) fn redraw(cells: &mut Cells, d: &[u8]) -> Result<(), StateFault>
     requires { 2 ≤ length d.now }
     ensures { elim result [ Ok u ↦ redrawn cells.old d.now ≡ Ok cells.new | Err f ↦ redrawn cells.old d.now ≡ Err f ] }

@@ -1,4 +1,4 @@
-// A screen: its value, and what it offers as a kind of state.
+//! A screen: its value, and what it offers as a kind of state.
 ghost use Rattle.std.specs.Prelude.{◌≡◌, ◌<◌, ◌≤◌, true, ◌&&◌, ◌++◌, length, drop, ◌==◌};
 ghost use Rattle.std.specs.Str.{bytes_eq};
 ghost use Rattle.screen.specs.Runs.{is_character};
@@ -12,7 +12,7 @@ use crate::runs::{CELLS, COLUMNS, Difference, ROWS, all_characters, is_character
 use state::fault::{DiffRefusal, EditRefusal, StateFault};
 use state::state::State;
 
-// The place of the cursor.
+/// The place of the cursor.
 #[derive(Clone, Copy, PartialEq, Eq, Debug)]
 pub struct Cursor {
     pub row: u8,
@@ -26,7 +26,7 @@ impl Cursor {
         usize::from(self.row) < ROWS && usize::from(self.column) < COLUMNS
     }
 
-    // The cursor that a diff begins with, if it is on the screen.
+    /// The cursor that a diff begins with, if it is on the screen.
     fn read(d: &[u8]) -> Option<Cursor>
         ensures { CursorTold d.now result }
     {
@@ -38,7 +38,7 @@ impl Cursor {
     }
 }
 
-// Eight rows of forty characters, row by row, and the cursor. A screen with a character or the cursor out of bounds reads as the start.
+/// Eight rows of forty characters, row by row, and the cursor. A screen with a character or the cursor out of bounds reads as the start.
 #[derive(Clone, Copy)]
 pub struct Screen {
     cells: [u8; CELLS],
@@ -57,14 +57,14 @@ impl Screen {
         all_characters(&self.cells) && self.cursor.is_on_screen()
     }
 
-    // This screen if it is legal, the start otherwise.
+    /// This screen if it is legal, the start otherwise.
     fn settled(&self) -> &Screen
         ensures { picture_of result.now ≡ (contents_of self.now).0 }
     {
         if self.is_legal() { self } else { &BLANK }
     }
 
-    // The characters of the screen, row by row.
+    /// The characters of the screen, row by row.
     pub fn cells(&self) -> &[u8; CELLS]
         ensures { result.now ≡ (contents_of self.now).0.cells }
     {
@@ -78,7 +78,7 @@ impl Screen {
         self.settled().cursor
     }
 
-    // This screen with a diff taken into it.
+    /// This screen with a diff taken into it.
     fn taking(&self, d: &[u8]) -> Result<Screen, StateFault>
         ensures { Taken self.now d.now result }
     {
@@ -88,7 +88,7 @@ impl Screen {
         Ok(Screen { cells, cursor })
     }
 
-    // What changed from `base` to this screen.
+    /// What changed from `base` to this screen.
     fn since<'a>(&'a self, base: &'a Screen) -> Difference<'a>
         ensures old { result.old.now ≡ (contents_of base.now).0.cells }
         ensures new { result.new.now ≡ (contents_of self.now).0.cells }
@@ -99,7 +99,7 @@ impl Screen {
         }
     }
 
-    // The length of the diff from `base` to this screen.
+    /// The length of the diff from `base` to this screen.
     fn size_from(&self, base: &Screen) -> usize
         ensures value { result ≡ length (diff (contents_of base.now) (contents_of self.now)) }
         ensures bound { result ≤ 13762 }
@@ -107,7 +107,7 @@ impl Screen {
         2 + self.since(base).size()
     }
 
-    // Writes the diff from `base` to this screen at the front of `out`.
+    /// Writes the diff from `base` to this screen at the front of `out`.
     fn write_from(&self, base: &Screen, out: &mut [u8])
         requires { length (diff (contents_of base.now) (contents_of self.now)) ≤ length out.old }
         ensures { out.new ≡ diff (contents_of base.now) (contents_of self.now) ++ drop (length (diff (contents_of base.now) (contents_of self.now))) out.old }
@@ -118,7 +118,7 @@ impl Screen {
         self.since(base).write(&mut out[2..]);
     }
 
-    // This screen with one character drawn, and the cursor on it.
+    /// This screen with one character drawn, and the cursor on it.
     fn drawing(&self, position: usize, character: u8) -> Screen
         requires { (position < 320) × (is_character character ≡ true) }
         ensures { (contents_of result).0 ≡ drawn_at (contents_of self.now).0 position character }
@@ -132,7 +132,7 @@ impl Screen {
         Screen { cells, cursor }
     }
 
-    // This screen with a character at a position by rows, and the cursor there.
+    /// This screen with a character at a position by rows, and the cursor there.
     pub fn with_character(&self, position: u32, character: u32) -> Result<Screen, EditRefusal>
         ensures { Drawn self.now position character result }
     {
@@ -190,7 +190,7 @@ impl State for Screen {
     }
 }
 
-// A diff that is taken leaves what it tells.
+/// A diff that is taken leaves what it tells.
 pub fn apply_stands()
     ensures { AppliesAsTold }
 {}

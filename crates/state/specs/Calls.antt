@@ -1,8 +1,7 @@
 -- What the answers of size and diff come to, case by case.
-use Rattle.std.specs.Prelude.{◌≡◌, ℕ, ◌<◌, ◌≤◌, min, true, List, ◌++◌, length, drop, Ok, Err}
+use Rattle.std.specs.Prelude.{◌≡◌, ℕ, ◌≤◌, min, true, List, ◌++◌, length, drop, Ok}
 use Rattle.std.proofs.Common.{◌∙◌}
-use Rattle.std.proofs.lemmas.Bool.{cond-true, cond-false, le-leb, lt-leb}
-use Rattle.state.specs.declared.fault.DiffRefusal.TheVariants.{TooLong}
+use Rattle.std.proofs.lemmas.Bool.{cond-true, le-leb}
 use Rattle.state.specs.Kind.{Kind, sized, roomy, diffed, written}
 
 module _ (K : Kind) (b t : K.Contents) where

@@ -41,9 +41,9 @@ abbrev pub diff_refusal_of : DiffRefusal → ℕ
 diff_refusal_of NotFollowing = 7
 diff_refusal_of TooLong = 9
 
--- the word of a diff's refusal: `no` and its number
-abbrev pub diff_refusal_word : DiffRefusal → List ℕ
-diff_refusal_word f = codes "no" ++ decimal (diff_refusal_of f)
+-- a refusal as it is printed: `no` and its number
+abbrev pub refusal_text : ℕ → List ℕ
+refusal_text n = codes "no" ++ decimal n
 
 -- the number of an edit's refusal: a value outside its field; no room for one entry more
 abbrev pub edit_refusal_of : EditRefusal → ℕ

@@ -1,4 +1,4 @@
-// Check: a layer over any kind of state that ends each diff with its checksum.
+//! Check: a layer over any kind of state that ends each diff with its checksum.
 ghost use Rattle.std.specs.Prelude.{◌≡◌, ◌+◌, ◌≤◌, ◌++◌, length, take, drop};
 ghost use Rattle.state.specs.Check.{check_kind, sealed};
 ghost use Rattle.state.specs.Checked.{check_reaches};
@@ -14,14 +14,14 @@ pub struct Check<K> {
 }
 
 impl<K: State> Check<K> {
-    // The layer over a state.
+    /// The layer over a state.
     pub fn over(inner: K) -> Check<K>
         ensures { result.inner ≡ inner }
     {
         Check { inner }
     }
 
-    // The state inside.
+    /// The state inside.
     pub fn inner(&self) -> &K
         ensures { result.now ≡ self.now.inner }
     {
@@ -29,7 +29,8 @@ impl<K: State> Check<K> {
     }
 }
 
-// Writes the checksum of the first `n` bytes behind them.
+/// Writes the checksum of the first `n` bytes behind them.
+// Stays: a range is the plain form of a part of known length; `first_chunk_mut` would need an `unwrap`.
 fn put_sum(out: &mut [u8], n: usize)
     requires { n + 2 ≤ length out.old }
     ensures { out.new ≡ sealed (take n out.old) ++ drop (n + 2) out.old }

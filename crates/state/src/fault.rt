@@ -1,11 +1,12 @@
-// Why a diff is not written, why one can't be applied, and why a state can't be edited.
+//! Why a diff is not written, why one can't be applied, and why a state can't be edited.
 ghost use Rattle.std.specs.Prelude.{◌≡◌, Some};
-ghost use Rattle.state.specs.Faults.{cause_of, place_of, moved_by, fault_words, diff_refusal_of, diff_refusal_word, edit_refusal_of};
+ghost use Rattle.state.specs.Faults.{cause_of, place_of, moved_by, fault_words, diff_refusal_of, refusal_text, edit_refusal_of};
 
 use std::fmt;
 use std::fmt::Write;
 
-// Why a diff can't be applied, with the place in the outermost diff at which the bad part begins.
+/// Why a diff can't be applied, with the place in the outermost diff at which the bad part begins.
+// Stays: a kind's fault is an enum, which a take's fault holds whole, by a rule of the project; callers match on its cases, each with its place.
 #[derive(Clone, Copy, PartialEq, Eq, Debug)]
 pub enum StateFault {
     BadCheck { at: usize },
@@ -15,7 +16,7 @@ pub enum StateFault {
 }
 
 impl StateFault {
-    // The number of the cause.
+    /// The number of the cause.
     pub fn cause(self) -> u8
         ensures { result ≡ cause_of self }
     {
@@ -27,7 +28,7 @@ impl StateFault {
         }
     }
 
-    // The first byte of the bad part.
+    /// The first byte of the bad part.
     pub fn place(self) -> usize
         ensures { result ≡ place_of self }
     {
@@ -39,12 +40,12 @@ impl StateFault {
         }
     }
 
-    // The same fault, told of a diff in which the inner one starts at `by`.
+    /// The same fault, told of a diff in which the inner one starts at `by`.
     pub fn moved(self, by: usize) -> StateFault
         ensures { result ≡ moved_by by self }
     {
         let at = self.place().saturating_add(by);
-        // Stays: a write through `at` of an or-pattern on `&mut self` was tried, and the proof then knows nothing of what it leaves in `self`.
+        // Stays: a write through `at` of an or-pattern was tried, and the proof then knows nothing of what it leaves in the fault.
         match self {
             StateFault::BadCheck { .. } => StateFault::BadCheck { at },
             StateFault::BadRun { .. } => StateFault::BadRun { at },
@@ -62,7 +63,7 @@ impl fmt::Display for StateFault {
     }
 }
 
-// Why a diff is not written.
+/// Why a diff is not written.
 #[derive(Clone, Copy, PartialEq, Eq, Debug)]
 pub enum DiffRefusal {
     NotFollowing = 7,
@@ -70,7 +71,8 @@ pub enum DiffRefusal {
 }
 
 impl DiffRefusal {
-    // The number of the refusal.
+    // Stays: `as u8` works on an enum and not on a type parameter, so each enum has its own.
+    /// The number of the refusal.
     pub fn number(self) -> u8
         ensures { result ≡ diff_refusal_of self }
     {
@@ -78,15 +80,16 @@ impl DiffRefusal {
     }
 }
 
+// Stays: one impl for every refusal under a trait of ours would overlap others, and a macro that wrote the impls could not state their output.
 impl fmt::Display for DiffRefusal {
-    ghost output = { λ refusal. Some (diff_refusal_word refusal) };
+    ghost output = { λ refusal. Some (refusal_text (diff_refusal_of refusal)) };
 
     fn fmt<W: fmt::Write>(&self, f: &mut fmt::Formatter<W>) -> fmt::Result {
         write!(f, "no{}", self.number())
     }
 }
 
-// Why a state is not given an entry or a character.
+/// Why a state is not given an entry or a character.
 #[derive(Clone, Copy, PartialEq, Eq, Debug)]
 pub enum EditRefusal {
     OutsideField,
@@ -94,7 +97,7 @@ pub enum EditRefusal {
 }
 
 impl EditRefusal {
-    // The number of the refusal.
+    /// The number of the refusal.
     // Stays: the two cases have one number, which no discriminants can say.
     pub fn number(self) -> u8
         ensures { result ≡ edit_refusal_of self }

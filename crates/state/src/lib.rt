@@ -1,4 +1,4 @@
-// What a kind of state offers, why a diff is refused, and the layer that ends a diff with its checksum.
+//! What a kind of state offers, why a diff is refused, and the layer that ends a diff with its checksum.
 #![tactic(auto)]
 
 pub mod check;

@@ -1,4 +1,4 @@
-// Runs a table of diffs, good and damaged: each line has a kind and bytes in hexadecimal.
+//! Runs a table of diffs, good and damaged: each line has a kind and bytes in hexadecimal.
 #![tactic(auto)]
 
 use journal::journal::Journal;
@@ -9,7 +9,7 @@ use state::state::State;
 use std::alloc::Global;
 use std::io;
 
-// A kind of state whose values the table shows.
+/// A kind of state whose values the table shows.
 trait Show: State {
     fn show<P: Print>(&self, rt: &P) -> io::Result<()>;
 }
@@ -35,7 +35,7 @@ impl<K: Show> Show for Check<K> {
     }
 }
 
-// Applies bytes to a fresh state, and shows it, or why they were refused.
+/// Applies bytes to a fresh state, and shows it, or why they were refused.
 fn apply<K: Show>(rt: &impl Print, diff: &[u8]) -> io::Result<()> {
     let mut state = K::start();
     match state.apply(diff) {
@@ -44,9 +44,9 @@ fn apply<K: Show>(rt: &impl Print, diff: &[u8]) -> io::Result<()> {
     }
 }
 
-// Runs one row of the table.
+/// Runs one row of the table.
+// Stays: the word is what the row says, and reading it is this match; what it leads to is one function for every kind.
 fn run(rt: &impl Print, kind: &str, diff: &[u8]) -> io::Result<()> {
-    // Stays: the word is what a row of the table says, and reading it is this match.
     match kind {
         "journal" => apply::<Journal>(rt, diff),
         "screen" => apply::<Screen>(rt, diff),
@@ -60,7 +60,7 @@ fn run(rt: &impl Print, kind: &str, diff: &[u8]) -> io::Result<()> {
     }
 }
 
-// A row is a kind and bytes; what stands behind a `#` is a remark.
+/// A row is a kind and bytes; what stands behind a `#` is a remark.
 fn row(rt: &impl Print, heap: Global, line: &str) -> io::Result<()> {
     let (kind, rest) = line.split_once(' ').unwrap_or((line, ""));
     let diff = hexadecimal::bytes(heap, rest)?;
@@ -68,7 +68,7 @@ fn row(rt: &impl Print, heap: Global, line: &str) -> io::Result<()> {
     run(rt, kind, diff.as_slice())
 }
 
-// Stays: each table is a program, and has a `main` of its own.
+// Stays: the other table's `main` is alike, but calls rows of its own; a crate for both would need a closure in place of four lines.
 fn main(rt: HostRuntime) -> io::Result<()> {
     for line in rt.lines(rt.alloc()) {
         row(&rt, rt.alloc(), line?.as_str())?;

@@ -1,11 +1,11 @@
 -- Lemmas on the lines of a text.
 use Rattle.std.proofs.Common.{◌≡◌, ℕ, suc, ◌+◌, ◌-◌, ◌<◌, ◌≤◌, min, not, eqb, ltb, List, [], ◌∷◌, ◌++◌, length, take, drop, unwrap_or, sym, refl, ap, ◌∙◌, subst, ⊎_elim, one-add, arith}
 use Rattle.std.specs.List.{AllByRecursion, position}
-use Rattle.std.proofs.lemmas.Bool.{cases_eq, cases_lt, cond_both, cond-true, eq-eqb, le-ltb, lt-ltb, ne_eqb}
+use Rattle.std.proofs.lemmas.Bool.{cases_eq, cases_lt, cond_both, cond-true, cond-false, eq-eqb, le-ltb, lt-ltb, ne_eqb}
 use Rattle.std.proofs.lemmas.List.Sums.{prefix_len-le-length}
 use Rattle.std.proofs.Math.Nat.{min_comm}
 use Rattle.std.proofs.lemmas.List.{drop-drop, drop_all, length-drop, length-take-le, take_rest}
-use Rattle.trace.specs.Lines.{onto, lines_of, joined, lacking, Unbroken, Rejoins, line_length, LineAt}
+use Rattle.trace.specs.Lines.{onto, lines_of, joined, lacking, Unbroken, Rejoins, line_length, next_place, next_count, numbered_on, LineAt}
 
 -- a byte that ends a line, and one that doesn't
 lines_end : (b : ℕ) (text : List ℕ) → b ≡ 10 → lines_of (b ∷ text) ≡ [] ∷ lines_of text
@@ -76,6 +76,26 @@ found text at k next inside e bound is =
       place ∙ sym (cond-true (ltb at (length text)) _ at (lt-ltb at (length text) inside)),
       line_at text at inside ∙ ap (λ l. l ∷ lines_of (drop (min (at + line_length (drop at text) + 1) (length text)) text)) (sym line) ∙ ap (λ n. take k (take (length text - at) (drop at text)) ∷ lines_of (drop n text)) (sym place),
     )
+
+-- at the end of a text nothing is left, before it and after a call
+pub none_left : (text : List ℕ) (at next count number : ℕ) → lines_of (drop at text) ≡ [] → next ≡ next_place text at → (numbered_on count (lines_of (drop at text)) ≡ []) × (numbered_on number (lines_of (drop next text)) ≡ [])
+none_left text at next count number none is =
+    ⊎_elim
+    (λ inside. absurd (let never : [] ≡ take (line_length (drop at text)) (drop at text) ∷ lines_of (drop (min (at + line_length (drop at text) + 1) (length text)) text) = sym none ∙ line_at text at inside in grind arith))
+    (λ past.
+    let stays : next ≡ at = is ∙ cond-false (ltb at (length text)) _ at (le-ltb at (length text) past) in
+    (ap (numbered_on count) none, ap (λ n. numbered_on number (lines_of (drop n text))) stays ∙ ap (numbered_on number) none))
+    (cases_lt at (length text))
+
+-- before it a call gives the first of the numbered lines and leaves the others
+pub next_left : (text line : List ℕ) (at next count number : ℕ) → length text ≤ 18446744073709551615 → count ≤ at → lines_of (drop at text) ≡ line ∷ lines_of (drop next text) → number ≡ next_count text at count → numbered_on count (lines_of (drop at text)) ≡ (number, line) ∷ numbered_on number (lines_of (drop next text))
+next_left text line at next count number room behind lines is =
+    ⊎_elim
+    (λ inside.
+    let on : number ≡ count + 1 = is ∙ cond-true (ltb at (length text)) _ count (lt-ltb at (length text) inside) ∙ omega arith in
+    ap (numbered_on count) lines ∙ ap (λ n. (n, line) ∷ numbered_on n (lines_of (drop next text))) (sym on))
+    (λ past. absurd (let never : [] ≡ line ∷ lines_of (drop next text) = sym (ap lines_of (drop_all at text past)) ∙ lines in grind arith))
+    (cases_lt at (length text))
 
 -- the lines of a text have no 0A
 onto_unbroken : (b : ℕ) (lines : List (List ℕ)) → (b ≡ 10 → ⊥) → AllByRecursion Unbroken lines → AllByRecursion Unbroken (onto b lines)

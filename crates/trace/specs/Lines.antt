@@ -45,6 +45,11 @@ next_place text at = cond (nat_lt at (length text)) (min (at + line_length (drop
 abbrev pub next_count : List ℕ → ℕ → ℕ → ℕ
 next_count text at count = cond (nat_lt at (length text)) (min (count + 1) 18446744073709551615) count
 
+-- lines, each with its number, where some count of lines stands before them
+abbrev pub numbered_on : ℕ → List (List ℕ) → List (ℕ × List ℕ)
+numbered_on count [] = []
+numbered_on count (line ∷ lines) = (count + 1, line) ∷ numbered_on (count + 1) lines
+
 -- no line stands at a place
 abbrev pub LastAt : List ℕ → ℕ → Type 0
 LastAt text at = (length text ≤ at) × (lines_of (drop at text) ≡ [])

@@ -1,6 +1,6 @@
 -- What is read of a trace, in words.
 use Rattle.std.specs.Prelude.{ℕ, List, ◌++◌, codes, decimal}
-use Rattle.trace.specs.Refusals.{refusal_number}
+use Rattle.trace.specs.Refusals.{refusal_number, refusal_text}
 use Rattle.trace.specs.declared.line.End.{End}
 use Rattle.trace.specs.declared.line.End.TheVariants.{Reader, Depot}
 use Rattle.trace.specs.declared.line.Event.{Event}
@@ -27,4 +27,4 @@ line_words l = codes "at " ++ (decimal l.at ++ (codes " " ++ (end_word l.end ++ 
 
 -- the word of a refusal: `no` and its number
 abbrev pub fault_word : TraceFault → List ℕ
-fault_word fault = codes "no" ++ decimal (refusal_number fault)
+fault_word fault = refusal_text (refusal_number fault)

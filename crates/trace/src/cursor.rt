@@ -1,4 +1,4 @@
-// A cursor over a line, which reads what stands at the front and goes on behind it.
+//! A cursor over a line, which reads what stands at the front and goes on behind it.
 ghost use Rattle.std.specs.Prelude.{◌≡◌, ◌+◌, ◌<◌, ◌≤◌, length, None};
 ghost use Rattle.trace.specs.Fronts.{answered, byte_front, digit_front, letter_front, number_front, space_front, value_front};
 
@@ -8,7 +8,7 @@ pub(crate) struct Cursor<'a> {
 }
 
 impl Cursor<'_> {
-    // The decimal digit at the front.
+    /// The decimal digit at the front.
     pub(crate) fn digit(&mut self) -> Option<u32>
         ensures reads { answered result self.new.rest.now ≡ digit_front self.old.rest.now }
         ensures stays { result ≡ None → self.new ≡ self.old }
@@ -19,7 +19,7 @@ impl Cursor<'_> {
         Some(digit)
     }
 
-    // The number at the front: decimal, of 32 bits, and with no leading zero.
+    /// The number at the front: decimal, of 32 bits, and with no leading zero.
     pub(crate) fn number(&mut self) -> Option<u32>
         ensures { answered result self.new.rest.now ≡ number_front self.old.rest.now }
     {
@@ -27,28 +27,28 @@ impl Cursor<'_> {
         if value == 0 {
             return Some(0);
         }
-        // Stays: nothing is counted; an iterator of digits would have to give back the byte at which it stops.
+        // Stays: nothing is counted; `from_fn` with `try_fold` was tried, and that such an iterator ends can't be had; cutting the digits off first takes three times the lines.
         while let Some(d) = self.digit() {
             value = value.checked_mul(10)?.checked_add(d)?;
         }
         Some(value)
     }
 
-    // The byte at the front.
+    /// The byte at the front.
     pub(crate) fn byte(&mut self) -> Option<u8>
         ensures { answered result self.new.rest.now ≡ byte_front self.old.rest.now }
     {
         self.rest.split_off_first().copied()
     }
 
-    // A space at the front.
+    /// A space at the front.
     fn space(&mut self) -> Option<()>
         ensures { answered result self.new.rest.now ≡ space_front self.old.rest.now }
     {
         (self.byte()? == b' ').then_some(())
     }
 
-    // The letter behind a space.
+    /// The letter behind a space.
     pub(crate) fn letter(&mut self) -> Option<u8>
         ensures { answered result self.new.rest.now ≡ letter_front self.old.rest.now }
     {
@@ -56,7 +56,7 @@ impl Cursor<'_> {
         self.byte()
     }
 
-    // The number behind a space.
+    /// The number behind a space.
     pub(crate) fn value(&mut self) -> Option<u32>
         ensures { answered result self.new.rest.now ≡ value_front self.old.rest.now }
     {

@@ -1,4 +1,4 @@
-// The trace of a replay, read line by line, and the lines of its listing.
+//! The trace of a replay, read line by line, and the lines of its listing.
 #![tactic(auto)]
 
 mod cursor;

@@ -1,15 +1,31 @@
-// A value line of a trace: what happens at one of the two ends, and when.
-ghost use Rattle.std.specs.Prelude.{◌≡◌, Some};
+//! A value line of a trace: what happens at one of the two ends, and when.
+ghost use Rattle.std.specs.Prelude.{◌≡◌, MatchResult, None, Some};
+ghost use Rattle.trace.specs.Reading.{end_of};
 ghost use Rattle.trace.specs.Refusals.{refusal_number};
 ghost use Rattle.trace.specs.Words.{end_word, event_words, line_words, fault_word};
 
 use std::fmt;
 
-// The end of the session at which an event happens.
+/// The end of the session at which an event happens.
 #[derive(Clone, Copy, PartialEq, Eq, Debug)]
 pub enum End {
     Reader,
     Depot,
+}
+
+impl TryFrom<u8> for End {
+    type Error = TraceFault;
+
+    ghost try_from_gives = { λ letter result. MatchResult result (λ end. end_of letter ≡ Some end) (λ _. end_of letter ≡ None) };
+
+    /// The end of a letter.
+    fn try_from(letter: u8) -> Result<End, TraceFault> {
+        match char::from(letter) {
+            'R' => Ok(End::Reader),
+            'D' => Ok(End::Depot),
+            _ => Err(TraceFault::Malformed),
+        }
+    }
 }
 
 impl fmt::Display for End {
@@ -23,7 +39,7 @@ impl fmt::Display for End {
     }
 }
 
-// What happens there, with the values as written: none is held to its field yet.
+/// What happens there, with the values as written: none is held to its field yet.
 #[derive(Clone, Copy, PartialEq, Eq, Debug)]
 pub enum Event {
     Key { key: u32 },
@@ -54,7 +70,7 @@ impl fmt::Display for Event {
     }
 }
 
-// An event, with the time and the end that it happens at.
+/// An event, with the time and the end that it happens at.
 #[derive(Clone, Copy, PartialEq, Eq, Debug)]
 pub struct Line {
     pub at: u32,
@@ -71,14 +87,15 @@ impl fmt::Display for Line {
     }
 }
 
-// Why a line of a trace is refused.
+/// Why a line of a trace is refused.
 #[derive(Clone, Copy, PartialEq, Eq, Debug)]
 pub enum TraceFault {
     Malformed = 1,
 }
 
 impl TraceFault {
-    // The number of the refusal.
+    // Stays: `as u8` works on an enum and not on a type parameter, so each enum has its own.
+    /// The number of the refusal.
     pub fn number(&self) -> u8
         ensures { result ≡ refusal_number self.now }
     {
@@ -86,6 +103,7 @@ impl TraceFault {
     }
 }
 
+// Stays: one impl for every refusal under a trait of ours would overlap others, and a macro that wrote the impls could not state their output.
 impl fmt::Display for TraceFault {
     ghost output = { λ fault. Some (fault_word fault) };
 

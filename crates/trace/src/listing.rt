@@ -1,12 +1,12 @@
-// The listing of a replay: a line of names, and a line for each value line of the trace.
-ghost use Rattle.std.specs.Prelude.{◌≡◌, IfOk, Some, string_bytes};
-ghost use Rattle.trace.specs.Listing.{Appended, listing_line, listing_names, outcome_word};
+//! The listing of a replay: a line of names, and a line for each value line of the trace.
+ghost use Rattle.std.specs.Prelude.{◌≡◌, Some, string_bytes};
+ghost use Rattle.trace.specs.Listing.{Appended, listing_line, listing_names, listing_values, outcome_word};
 
 use std::alloc::{AllocError, Global};
 use std::fmt;
 use std::fmt::Write;
 
-// What came of a line.
+/// What came of a line.
 #[derive(Clone, Copy, PartialEq, Eq, Debug)]
 pub enum Outcome {
     Done,
@@ -17,7 +17,7 @@ pub enum Outcome {
     Again,
     Baseless,
     Part,
-    // Stays: the listing prints whatever number it is given, and a narrower type would ask more of its callers.
+    // Stays: `trace` sees none of the crates whose refusals are listed, and writes whichever number it is given; a narrower type would ask more of its callers.
     Refused(u8),
 }
 
@@ -39,7 +39,7 @@ impl fmt::Display for Outcome {
     }
 }
 
-// The values of a line, `shown` being the newest number and `sum` the checksum of what is shown.
+/// The values of a line, `shown` being the newest number and `sum` the checksum of what is shown.
 #[derive(Clone, Copy, PartialEq, Eq, Debug)]
 pub struct ListingLine {
     pub line: u64,
@@ -49,30 +49,32 @@ pub struct ListingLine {
     pub sum: u16,
 }
 
-fn line_text(heap: Global, line: ListingLine) -> Result<String, AllocError>
-    ensures { IfOk result (λ text. string_bytes text ≡ listing_line line) }
-{
-    let ListingLine {
-        line,
-        result,
-        n,
-        shown,
-        sum,
-    } = line;
-    format!(in heap; "{line} {result} {n} {shown} {sum}\n")
+impl fmt::Display for ListingLine {
+    ghost output = { λ line. Some (listing_values line) };
+
+    fn fmt<W: fmt::Write>(&self, f: &mut fmt::Formatter<W>) -> fmt::Result {
+        let ListingLine {
+            line,
+            result,
+            n,
+            shown,
+            sum,
+        } = self;
+        write!(f, "{line} {result} {n} {shown} {sum}")
+    }
 }
 
-// Appends the names to a listing, or leaves it where there is no memory.
+/// Appends the names to a listing, or leaves it where there is no memory.
 pub fn push_names(listing: &mut String) -> Result<(), AllocError>
     ensures { Appended result (string_bytes listing.old) listing_names (string_bytes listing.new) }
 {
     listing.push_str("line result n shown sum\n")
 }
 
-// Appends a line to a listing, or leaves it where there is no memory.
+/// Appends a line to a listing, or leaves it where there is no memory.
 pub fn push_line(listing: &mut String, heap: Global, line: ListingLine) -> Result<(), AllocError>
     ensures { Appended result (string_bytes listing.old) (listing_line line) (string_bytes listing.new) }
 {
-    let text = line_text(heap, line)?;
+    let text = format!(in heap; "{line}\n")?;
     listing.push_str(text.as_str())
 }

@@ -1,9 +1,9 @@
-// Reads each line of standard input as a line of a trace, and writes what was read, or its refusal.
+//! Reads each line of standard input as a line of a trace, and writes what was read, or its refusal.
 #![tactic(auto)]
 
 use std::io;
 use std::io::{BufWriter, Read, Write};
-use trace::lines::{LineCount, ReadingPlace, next_line};
+use trace::lines::NumberedLines;
 use trace::reader::{is_names_line, read_line};
 
 fn judge<W: Write>(out: &mut W, number: u64, text: &[u8]) -> io::Result<()> {
@@ -21,11 +21,8 @@ fn main(rt: HostRuntime) -> io::Result<()> {
     rt.stdin().read_to_end(&mut input)?;
     let text = input.as_slice();
     let mut out = BufWriter::new(rt.alloc(), rt.stdout())?;
-    let mut place = ReadingPlace { at: 0 };
-    let mut count = LineCount { lines: 0 };
-    // Stays: the place and the count are records of the caller's own, which a look ahead may put back; an iterator would hide them.
-    while let Some(line) = next_line(text, &mut place, &mut count) {
-        judge(&mut out, count.lines, line)?;
+    for (number, line) in NumberedLines::new(text) {
+        judge(&mut out, number, line)?;
     }
     out.flush()
 }

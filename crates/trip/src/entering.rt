@@ -1,4 +1,4 @@
-// What the lines of a trace make of a journal and a screen.
+//! What the lines of a trace make of a journal and a screen.
 ghost use Rattle.std.specs.Prelude.{◌≡◌};
 ghost use Rattle.trip.specs.declared.entering.Refusal.TheVariants.{Edit};
 ghost use Rattle.trip.specs.Trips.{refusal_number, is_own, Entered};
@@ -10,14 +10,14 @@ use state::state::State;
 use std::fmt;
 use trace::line::{End, Event, Line};
 
-// What the two ends share.
+/// What the two ends share.
 #[derive(Clone, Copy)]
 pub(crate) struct Trip {
     pub(crate) journal: Journal,
     pub(crate) screen: Screen,
 }
 
-// Why a line is not taken in.
+/// Why a line is not taken in.
 #[derive(Clone, Copy, PartialEq, Eq, Debug)]
 pub(crate) enum Refusal {
     WrongEnd,
@@ -26,7 +26,7 @@ pub(crate) enum Refusal {
 }
 
 impl Refusal {
-    // The number of the refusal.
+    /// The number of the refusal.
     pub(crate) fn number(self) -> u8
         ensures { result ≡ refusal_number self }
     {
@@ -58,7 +58,7 @@ impl fmt::Display for Refusal {
 }
 
 impl Trip {
-    // A trip with nothing in it.
+    /// A trip with nothing in it.
     pub(crate) fn start() -> Trip {
         Trip {
             journal: <Journal as State>::start(),
@@ -67,7 +67,7 @@ impl Trip {
     }
 }
 
-// Whether an event is one of this end's: keys and taps are the reader's, positions the depot's.
+/// Whether an event is one of this end's: keys and taps are the reader's, positions the depot's.
 fn belongs(end: End, event: Event) -> bool
     ensures { result ≡ is_own end event }
 {
@@ -77,7 +77,7 @@ fn belongs(end: End, event: Event) -> bool
     )
 }
 
-// The trip with an event taken into its journal or onto its screen; ticks and takes are passed over.
+/// The trip with an event taken into its journal or onto its screen; ticks and takes are passed over.
 pub(crate) fn entered(trip: &Trip, line: Line) -> Result<Trip, Refusal>
     ensures { Entered trip.now line result }
 {

@@ -1,4 +1,4 @@
-// Reads a trip's keys, taps and positions from a trace, and shows the journal and the screen that they make.
+//! Reads a trip's keys, taps and positions from a trace, and shows the journal and the screen that they make.
 #![tactic(auto)]
 
 mod entering;
@@ -10,10 +10,10 @@ use packet::datagram::Direction;
 use state::state::State;
 use std::io;
 use std::io::Read;
-use trace::lines::{LineCount, ReadingPlace, next_line};
+use trace::lines::NumberedLines;
 use trace::reader::{is_names_line, read_line};
 
-// Takes one line in, or says with its number what is wrong with it.
+/// Takes one line in, or says with its number what is wrong with it.
 fn take_line(rt: &impl Print, trip: &mut Trip, number: u64, text: &[u8]) -> io::Result<()> {
     if number == 1 && is_names_line(text) {
         return Ok(());
@@ -30,13 +30,10 @@ fn take_line(rt: &impl Print, trip: &mut Trip, number: u64, text: &[u8]) -> io::
     }
 }
 
-// Takes all lines in, one after another.
+/// Takes all lines in, one after another.
 fn take_lines(rt: &impl Print, trip: &mut Trip, text: &[u8]) -> io::Result<()> {
-    let mut place = ReadingPlace { at: 0 };
-    let mut count = LineCount { lines: 0 };
-    // Stays: the place and the count are records of the caller's own, which a look ahead may put back; an iterator would hide them.
-    while let Some(line) = next_line(text, &mut place, &mut count) {
-        take_line(rt, trip, count.lines, line)?;
+    for (number, line) in NumberedLines::new(text) {
+        take_line(rt, trip, number, line)?;
     }
     Ok(())
 }

@@ -1,4 +1,4 @@
-// A state shown by its checked diff from the start, taken into a fresh state and sent as datagrams.
+//! A state shown by its checked diff from the start, taken into a fresh state and sent as datagrams.
 use crate::sending::Sending;
 use packet::datagram::Direction;
 use state::check::Check;
@@ -6,7 +6,7 @@ use state::checksum::internet_checksum;
 use state::state::State;
 use std::io;
 
-// Prints bytes in hexadecimal, sixteen to a line.
+/// Prints bytes in hexadecimal, sixteen to a line.
 pub(crate) fn print_bytes(rt: &impl Print, bytes: &[u8]) -> io::Result<()> {
     for line in bytes.chunks(16) {
         if let Some((first, others)) = line.split_first() {
@@ -20,7 +20,7 @@ pub(crate) fn print_bytes(rt: &impl Print, bytes: &[u8]) -> io::Result<()> {
     Ok(())
 }
 
-// Applies the diff to a fresh state, and says whether the two are the same then.
+/// Applies the diff to a fresh state, and says whether the two are the same then.
 fn show_applied<K: State>(rt: &impl Print, name: &str, state: &K, diff: &[u8]) -> io::Result<()> {
     let mut fresh = K::start();
     match fresh.apply(diff) {
@@ -30,7 +30,7 @@ fn show_applied<K: State>(rt: &impl Print, name: &str, state: &K, diff: &[u8]) -
     }
 }
 
-// Prints the checked diff of a state from the start, with its length and its checksum, applies it and sends it.
+/// Prints the checked diff of a state from the start, with its length and its checksum, applies it and sends it.
 pub(crate) fn show<K: State>(
     rt: &impl Print,
     name: &str,
@@ -43,7 +43,8 @@ pub(crate) fn show<K: State>(
         Ok(n) => n,
         Err(refusal) => return println!(rt; "{name} diff: {refusal}"),
     };
-    let diff = buffer.get(..n).unwrap_or(&[]);
+    // Stays: an array since nothing here is on a heap; the diff tells how much of it was written.
+    let diff = &buffer[..n];
     let Some((inner, _)) = diff.split_last_chunk::<2>() else {
         return println!(rt; "{name} diff: no bytes");
     };

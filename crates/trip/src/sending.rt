@@ -1,16 +1,14 @@
-// A diff sent as datagrams, and put together again from them in another order.
+//! A diff sent as datagrams, and put together again from them in another order.
 use crate::report::print_bytes;
 use assembler::assembly::Assembler;
 use assembler::offer::Offer;
-use packet::datagram::{Datagram, Direction};
+use packet::datagram::{Datagram, Direction, LONGEST};
 use packet::fragment::Fragment;
 use packet::instruction::Instruction;
+use packet::sending::ROOM;
 use std::io;
 
-// The length of each datagram of a sending but the last.
-const DATAGRAM: usize = 278;
-
-// The direction in which the other end sends.
+/// The direction in which the other end sends.
 fn other(direction: Direction) -> Direction {
     match direction {
         Direction::TowardDepot => Direction::TowardReader,
@@ -18,7 +16,7 @@ fn other(direction: Direction) -> Direction {
     }
 }
 
-// A diff that is sent, and the name of its state.
+/// A diff that is sent, and the name of its state.
 #[derive(Clone, Copy)]
 pub(crate) struct Sending<'a> {
     pub(crate) name: &'a str,
@@ -26,7 +24,7 @@ pub(crate) struct Sending<'a> {
 }
 
 impl Sending<'_> {
-    // Says what an instruction put together again says.
+    /// Says what an instruction put together again says.
     fn show_whole(self, rt: &impl Print, bytes: &[u8]) -> io::Result<()> {
         let Sending { name, diff } = self;
         match Instruction::read(bytes) {
@@ -38,7 +36,8 @@ impl Sending<'_> {
         }
     }
 
-    // Offers a fragment to the assembler, and says what it comes to.
+    /// Offers a fragment to the assembler, and says what it comes to.
+    // Stays: `packets_table` has a match like it with words of its own, and no crate lies between the two programs.
     fn offer(
         self,
         rt: &impl Print,
@@ -63,11 +62,11 @@ impl Sending<'_> {
         }
     }
 
-    // Takes the datagrams from the last to the first, as the other end reads them.
+    /// Takes the datagrams from the last to the first, as the other end reads them.
     fn assemble(self, rt: &impl Print, written: &[u8], reads: Direction) -> io::Result<()> {
         let name = self.name;
         let mut assembler = Assembler::new();
-        for (k, bytes) in written.chunks(DATAGRAM).enumerate().rev() {
+        for (k, bytes) in written.chunks(LONGEST).enumerate().rev() {
             match Datagram::read(bytes, reads) {
                 Ok(datagram) => self.offer(rt, &mut assembler, datagram.fragment)?,
                 Err(fault) => println!(rt; "{name} datagram {k}: {fault}")?,
@@ -76,7 +75,7 @@ impl Sending<'_> {
         Ok(())
     }
 
-    // Sends the diff from state 0 to state 1 as the first sending, prints its datagrams, and assembles them again.
+    /// Sends the diff from state 0 to state 1 as the first sending, prints its datagrams, and assembles them again.
     pub(crate) fn show(self, rt: &impl Print, direction: Direction) -> io::Result<()> {
         let Sending { name, diff } = self;
         let instruction = Instruction {
@@ -86,13 +85,14 @@ impl Sending<'_> {
             throwaway: 0,
             diff,
         };
-        let mut out = [0u8; 2224];
+        let mut out = [0u8; ROOM];
         let sent = match instruction.send(direction, 0, 1, &mut out) {
             Ok(sent) => sent,
             Err(refusal) => return println!(rt; "{name} sending: {refusal}"),
         };
-        let written = out.get(..sent.length).unwrap_or(&out);
-        for (k, datagram) in written.chunks(DATAGRAM).enumerate() {
+        // Stays: an array since nothing here is on a heap; the sending tells how much of it was written.
+        let written = &out[..sent.length];
+        for (k, datagram) in written.chunks(LONGEST).enumerate() {
             let length = datagram.len();
             println!(rt; "{name} datagram {k}: {length} bytes")?;
             print_bytes(rt, datagram)?;

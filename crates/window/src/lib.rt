@@ -1,4 +1,4 @@
-// A numbered window over a lent store: which numbers are held, and where their elements lie.
+//! A numbered window over a lent store: which numbers are held, and where their elements lie.
 #![tactic(auto)]
 
 pub mod answers;

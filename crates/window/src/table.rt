@@ -1,7 +1,7 @@
-// The number table of a window.
+//! The number table of a window.
 ghost use Rattle.std.specs.Prelude.{◌^◌, ◌<◌, ◌≤◌};
 
-// Bit k of `marks` says that the number `anchor + k` is held; none is `width` or more above the anchor.
+/// Bit k of `marks` says that the number `anchor + k` is held; none is `width` or more above the anchor.
 #[derive(Clone, Copy)]
 pub struct NumberTable {
     pub(crate) anchor: u32,

@@ -1,6 +1,6 @@
-use Rattle.std.proofs.Common.{sym}
+use Rattle.std.proofs.Common.{rules}
 use Rattle.journal.proofs.Pushes.{push_ok}
 use Rattle.journal.proofs.journal.Journal.push.Goals as goal
 
 pub returns : goal.returns
-returns c = sym (push_ok c.args.self.now c.args.entry c.requires.0 c.requires.1 c.if-at-ge64.false)
+returns c = push_ok c.args.self.now c.args.entry _ (search rules) (search rules) c.if-at-ge-CAPACITY.false

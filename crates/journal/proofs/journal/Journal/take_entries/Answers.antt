@@ -1,22 +1,19 @@
 use Rattle.std.proofs.Common.{ℕ, Option, sym, subst, rules}
-use Rattle.journal.proofs.Taking.{IsSofar, begun, done_ok, with_room, no_room}
+use Rattle.journal.proofs.Taking.{IsSofar, begun, done_ok, put, refused}
 use Rattle.journal.proofs.journal.Journal.take_entries.Goals as goal
 
 pub loop-rest-init : goal.loop-rest-init
-loop-rest-init c = begun c.args.self.now c.args.d.now c.requires.0 c.requires.1
+loop-rest-init c = begun c.args.self.now c.args.d.now
 
-pub loop-rest-preserved-then-self-lt64 : goal.loop-rest-preserved-then-self-lt64
-loop-rest-preserved-then-self-lt64 c =
-    let e = c.in-Some.ensures in
-    (_, with_room c.args.self.now c.args.d.now c.requires.0 c.requires.1 c.loop-rest.rest.now c.loop-rest.full c.loop-rest.self c.loop-rest.invariant.0 c.loop-rest.invariant.1 c.in-Some.entry c.in-Some.behind.now e.0 e.1 c.if-self-lt64.true)
+pub loop-rest-preserved-then-is_err : goal.loop-rest-preserved-then-is_err
+loop-rest-preserved-then-is_err c =
+    let P : Option ℕ → Type 0 = λ o. IsSofar c.args.self.now c.args.d.now c.in_ok-entry.behind.now o c.push.new.self in
+    subst P (sym c.or-full.ensures) (refused c.args.self.now c.args.d.now _ _ c.loop-rest.self c.loop-rest.invariant c.in_ok-entry.entry _ (search rules) (search rules) c.push.new.self c.push.result c.push.ensures (search rules))
 
 pub loop-rest-preserved : goal.loop-rest-preserved
 loop-rest-preserved c =
-    let e = c.in-Some.ensures in
-    let s = no_room c.args.self.now c.args.d.now c.requires.0 c.requires.1 c.loop-rest.rest.now c.loop-rest.full c.loop-rest.self c.loop-rest.invariant.0 c.loop-rest.invariant.1 c.in-Some.entry c.in-Some.behind.now e.0 e.1 c.if-self-lt64.false in
-    let P : Option ℕ → Type 0 = λ o. IsSofar c.args.self.now c.args.d.now c.in-Some.behind.now o c.loop-rest.self in
-    subst P (sym c.or-full.ensures) (_, s)
+    put c.args.self.now c.args.d.now _ _ c.loop-rest.self c.loop-rest.invariant c.in_ok-entry.entry _ (search rules) (search rules) c.push.new.self c.push.result c.push.ensures (search rules)
 
 pub returns-in-None : goal.returns-in-None
 returns-in-None c =
-    done_ok c.args.self.now c.args.d.now c.requires.0 c.requires.1 c.loop-rest.rest.now c.loop-rest.full c.loop-rest.self c.loop-rest.invariant.0 c.loop-rest.invariant.1 (search rules) c.in-None.is
+    done_ok c.args.self.now c.args.d.now _ _ c.loop-rest.self c.loop-rest.invariant (search rules) c.in-None.is

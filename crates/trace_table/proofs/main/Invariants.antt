@@ -1,6 +1,0 @@
-use Rattle.std.proofs.Common.{length, drop}
-use Rattle.trace.specs.Lines.{lines_of}
-use Rattle.trace_table.proofs.main.Given as goal
-
-abbrev pub decreases-loop-line : goal.decreases-loop-line
-decreases-loop-line l = length (lines_of (drop l.place.at l.text))
