@@ -8,7 +8,7 @@ ghost use Rattle.assembler.specs.Offers.{contradicts};
 ghost use Rattle.assembler.specs.Reading.{marked};
 ghost use Rattle.assembler.specs.Taking.{Answered, Taken};
 
-use crate::half::Collecting;
+use crate::half::{Collecting, Half};
 use crate::marks::Marks;
 use crate::offer::Offer;
 use crate::placing;
@@ -19,7 +19,7 @@ use packet::refusal::FragmentFault;
 /// Fragments of one sending, each at its place in the buffer, until none is missing.
 #[derive(Drop)]
 pub struct Assembler {
-    state: Option<Collecting>,
+    state: Half,
     buf: [u8; 2048],
 }
 

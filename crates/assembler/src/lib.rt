@@ -2,7 +2,7 @@
 #![tactic(auto)]
 
 pub mod assembly;
-mod half;
+pub mod half;
 mod marks;
 pub mod offer;
 mod placing;

@@ -4,5 +4,6 @@ pub mod Edges
 pub mod End
 pub mod Exchange
 pub mod Own
+pub mod Refusals
 pub mod Taking
 pub mod Ticking

@@ -20,7 +20,6 @@ rows_first j whole =
     (λ _. refl)
 
 pub push_ok : (j : Journal) (e : Entry) (at : ℕ) → length j.entries ≡ 64 → at ≡ length (reading j).0 → at < 64 → pushed (reading j) e ≡ Ok (reading (record { entries = set j.entries at e; count = at + 1 }))
-unfolding pushed
 push_ok j e at whole at-is room =
     let j' : Journal = record { entries = set j.entries at e; count = at + 1 } in
     let ok : Contents → Result Contents EditRefusal = λ t. Ok t in
@@ -39,12 +38,10 @@ within_err es false few-is f is = few-is
 
 -- the contents that one entry more gives
 pub push_more : (c : Contents) (e : Entry) (t : Contents) → pushed c e ≡ Ok t → t.0 ≡ c.0 ++ (e ∷ [])
-unfolding pushed
 push_more c e t is = within_ok (c.0 ++ (e ∷ [])) _ refl t is
 
 -- contents that have no room for one
 pub push_full : (c : Contents) (e : Entry) (f : EditRefusal) → pushed c e ≡ Err f → 64 ≤ length c.0
-unfolding pushed
 push_full c e f is =
     let es = c.0 ++ (e ∷ []) in
     omega (arith, leb-false (length es) 64 (within_err es _ refl f is), length_push c.0 e)

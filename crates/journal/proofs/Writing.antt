@@ -1,19 +1,7 @@
 -- Entries written one behind the other.
-use Rattle.std.proofs.Common.{◌≡◌, ℕ, ◌+◌, ◌-◌, ◌<◌, ◌≤◌, List, ◌++◌, length, take, drop, slice_index_or, suc, sym, ap, ◌∙◌, arith}
+use Rattle.std.proofs.Common.{◌≡◌, ℕ, ◌+◌, ◌-◌, ◌≤◌, List, ◌++◌, length, take, drop, sym, ap, ◌∙◌, arith}
 use borrow.Rule.Slice.PartMut.{put_mid}
-use Rattle.std.proofs.Math.Seq.{take-suc}
-use Rattle.std.proofs.lemmas.Grind.{flat_map-append}
 use Rattle.std.proofs.lemmas.List.{append_assoc, append-nil, drop_all, drop_at, drop-drop, length-drop, take_all, take_at}
-use Rattle.journal.specs.declared.entry.Entry.{Entry}
-use Rattle.journal.specs.Entries.{entry_bytes, entries_bytes}
-
--- the bytes of the first entries and of one more
-pub bytes_more : (es : List Entry) (i : ℕ) (d : Entry) → i < length es → entries_bytes (take (i + 1) es) ≡ entries_bytes (take i es) ++ entry_bytes (slice_index_or es i d)
-bytes_more es i d h =
-    ap (λ n. entries_bytes (take n es)) {x = i + 1} {y = suc i} (omega arith)
-    ∙ ap entries_bytes (take-suc es i d h)
-    ∙ flat_map-append entry_bytes (take i es) _
-    ∙ ap (λ bs. entries_bytes (take i es) ++ bs) (append-nil _)
 
 -- bytes written behind a front, in a buffer that was xs
 pub behind : (xs out front bytes : List ℕ) (at k : ℕ) → out ≡ front ++ drop at xs → at ≡ length front → k ≡ length out - at → at ≤ length xs → put_mid at k out (bytes ++ drop (length bytes) (take k (drop at out))) ≡ (front ++ bytes) ++ drop (at + length bytes) xs

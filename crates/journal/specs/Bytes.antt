@@ -1,7 +1,8 @@
 -- Entries written are the entries read.
-use Rattle.std.specs.Prelude.{◌≡◌, ℕ, ◌+◌, ◌*◌, ◌<◌, ◌≤◌, Bool, true, false, cond, ◌&&◌, List, [], ◌∷◌, ◌++◌, length, Some, None, Ok, Err, Option, Result, ◌==◌, nat_le, slice_index, refl}
+use Rattle.std.specs.Prelude.{◌≡◌, ℕ, ◌+◌, ◌-◌, ◌*◌, ◌<◌, ◌≤◌, Bool, true, false, cond, ◌&&◌, List, [], ◌∷◌, ◌++◌, length, take, drop, Some, None, Ok, Err, Option, Result, ◌==◌, nat_le, slice_index, slice_index_or, refl}
 use Rattle.std.proofs.Common.{sym, ap, subst, ◌∙◌, arith}
-use Rattle.std.proofs.lemmas.List.{append_assoc, append-nil, drop_at, length-append, take-append-drop}
+use Rattle.std.proofs.lemmas.List.{append_assoc, append-nil, drop_all, drop_at, drop-drop, flat_map_more, length-append, length-drop, take-append-drop, take_at, take_more, take_rest}
+use borrow.Rule.Slice.PartMut.{put_mid}
 use Rattle.std.proofs.lemmas.Bool.{and_parts, cond-true, le-leb, leb-true}
 use Rattle.state.specs.declared.fault.StateFault.{StateFault}
 use Rattle.state.specs.declared.fault.StateFault.TheVariants.{BadEntry}
@@ -54,14 +55,53 @@ applied_good c d es is =
     let on : Result (List Entry) ℕ → Result Contents StateFault = λ o. elim o [ Ok x ↦ grown c x | Err at ↦ Err (BadEntry at) ] in
     ap on is
 
+pub applied_bad : (c : Contents) (d : List ℕ) (at : ℕ) → entries_in d ≡ Err at → applied c d ≡ Err (BadEntry at)
+applied_bad c d at is =
+    let on : Result (List Entry) ℕ → Result Contents StateFault = λ o. elim o [ Ok x ↦ grown c x | Err at ↦ Err (BadEntry at) ] in
+    ap on is
+
 pub journal_reaches : Reaches journal_kind
 journal_reaches b t f short =
     applied_good b (entries_bytes (added b t)) (added b t) (read_all (added b t) [] 0)
     ∙ few_yes (b.0 ++ added b t) (λ c. Ok c) _ t (ap (λ x. x ++ added b t) (front b t f) ∙ take-append-drop (length b.0) t.0)
 
+-- one entry more, as a loop over entries meets it
+pub bytes_more : (es : List Entry) (i : ℕ) (d : Entry) → i < length es → entries_bytes (take (i + 1) es) ≡ entries_bytes (take i es) ++ entry_bytes (slice_index_or es i d)
+bytes_more es i d here = ap entries_bytes (take_more es i d here) ∙ sym (flat_map_more entry_bytes [] (take i es) (slice_index_or es i d))
+
+pub length_more : (es : List Entry) (i : ℕ) (d : Entry) → i < length es → length (entries_bytes (take (i + 1) es)) ≡ length (entries_bytes (take i es)) + length (entry_bytes (slice_index_or es i d))
+length_more es i d here = ap length (bytes_more es i d here) ∙ length-append (entries_bytes (take i es)) (entry_bytes (slice_index_or es i d))
+
+pub bytes_append : (xs ys : List Entry) → entries_bytes (xs ++ ys) ≡ entries_bytes xs ++ entries_bytes ys
+bytes_append [] ys = refl
+bytes_append (x ∷ xs) ys = ap (λ z. entry_bytes x ++ z) (bytes_append xs ys) ∙ sym (append_assoc (entry_bytes x) (entries_bytes xs) (entries_bytes ys))
+
+-- a front has no more bytes than the whole
+pub length_front : (es : List Entry) (i : ℕ) → length (entries_bytes (take i es)) ≤ length (entries_bytes es)
+length_front es i =
+    omega (arith, ap length (ap entries_bytes (take-append-drop i es)), ap length (bytes_append (take i es) (drop i es)), length-append (entries_bytes (take i es)) (entries_bytes (drop i es)))
+
 pub length_few : (es : List Entry) → length (entries_bytes es) ≤ 9 * length es
 length_few [] = omega arith
 length_few (e ∷ es) = omega (arith, length-append (entry_bytes e) (entries_bytes es), width_le e, length_few es)
+
+-- an entry written behind others
+pub put_more : (es : List Entry) (i : ℕ) (d : Entry) (out out' part : List ℕ) (at n : ℕ)
+    → i < length es → at ≡ length (entries_bytes (take i es)) → out' ≡ entries_bytes (take i es) ++ drop at out → n ≡ length (entry_bytes (slice_index_or es i d))
+    → part ≡ entry_bytes (slice_index_or es i d) ++ drop (length (entry_bytes (slice_index_or es i d))) (take (length out' - at) (drop at out'))
+    → put_mid at (length out' - at) out' part ≡ entries_bytes (take (i + 1) es) ++ drop (at + n) out
+put_more es i d out out' part at n here at-is was n-is wrote =
+    let done = entries_bytes (take i es) in
+    let e = entry_bytes (slice_index_or es i d) in
+    let front' : take at out' ≡ done = ap (take at) was ∙ take_at done (drop at out) at (sym at-is) in
+    let rest : drop at out' ≡ drop at out = ap (drop at) was ∙ drop_at done (drop at out) at (sym at-is) in
+    let all' : take (length out' - at) (drop at out') ≡ drop at out = take_rest out' at ∙ rest in
+    let past : drop (length out' - at) (drop at out') ≡ [] = drop_all (length out' - at) (drop at out') (omega (arith, length-drop at out')) in
+    ap (λ z. z ++ (part ++ drop (length out' - at) (drop at out'))) front'
+    ∙ ap (λ z. done ++ (part ++ z)) past
+    ∙ ap (λ z. done ++ z) (append-nil part ∙ wrote ∙ ap (λ z. e ++ drop (length e) z) all' ∙ ap (λ k. e ++ drop k (drop at out)) (sym n-is) ∙ ap (λ z. e ++ z) (drop-drop n at out))
+    ∙ sym (append_assoc done e (drop (at + n) out))
+    ∙ ap (λ z. z ++ drop (at + n) out) (sym (bytes_more es i d here))
 
 cond_some : {X : Type 0} (b : Bool) (x : X) (o : Option X) (y : X) (P : X → Type 0) → cond b (Some x) o ≡ Some y → (b ≡ true → P x) → (o ≡ Some y → P y) → P y
 cond_some true x o y P e p q = let same : x ≡ y = cc in subst P same (p refl)
@@ -76,3 +116,9 @@ entry_fits bs e is =
   where
     never : {P : Type 0} → ◌≡◌ {A = Option Entry} None (Some e) → P
     never n = let z : ◌≡◌ {A = ℕ} 0 1 = cc in absurd (omega arith)
+
+-- no entry read
+pub no_more : (es : List Entry) (bs : List ℕ) → entry_at bs ≡ None → one_more es bs ≡ None
+no_more es bs is =
+    let on : Option Entry → Option (List Entry × ℕ) = λ o. elim o [ None ↦ None | Some x ↦ Some (es ++ (x ∷ []), length (entry_bytes x)) ] in
+    ap on is

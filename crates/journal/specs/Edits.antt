@@ -8,7 +8,7 @@ use Rattle.journal.specs.declared.journal.Journal.{Journal}
 use Rattle.journal.specs.Journals.{Contents, if_few, reading}
 
 -- one entry more, while there is room for it
-unfoldable pub pushed : Contents → Entry → Result Contents EditRefusal
+abbrev pub pushed : Contents → Entry → Result Contents EditRefusal
 pushed c e = if_few (c.0 ++ (e ∷ [])) (λ t. Ok t) (Err Full)
 
 -- an entry put into a journal: its contents with the entry, or the refusal and the journal as it was

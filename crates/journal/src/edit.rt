@@ -9,7 +9,6 @@ use state::fault::EditRefusal;
 
 impl Journal {
     /// Puts an entry behind the others; a full journal is refused and stays as it is.
-    #[tactic(auto, unfolding(crate::specs::Edits::pushed))]
     pub(crate) fn push(&mut self, entry: Entry) -> Result<(), EditRefusal>
         ensures { Pushed self.old entry self.new result }
     {

@@ -87,9 +87,9 @@ impl State for Journal {
         self.entries() == other.entries()
     }
 
-    #[tactic(auto, using(crate::proofs::Same::slices_same))]
+    #[tactic(auto, using(crate::proofs::Same::front_same))]
     fn follows(&self, base: &Journal) -> bool {
-        self.entries().starts_with(base.entries())
+        self.entries().strip_prefix(base.entries()).is_some()
     }
 
     #[tactic(auto, using(crate::proofs::Same::front_same))]

@@ -2,12 +2,12 @@
 use Rattle.std.proofs.Common.{◌≡◌, ℕ, zero, suc, ◌+◌, ◌*◌, ◌<◌, ◌≤◌, false, List, [], ◌∷◌, ◌++◌, map, length, get_or, take, drop, Ok, sym, refl, ap, ◌∙◌, subst, arith, take-add}
 use Rattle.std.specs.List.{range_with_len, flat_map}
 use Rattle.std.proofs.lemmas.List.FromFn.{map-range_with_len_more, length-map-range_with_len, get_or-map-range_with_len}
-use Rattle.std.proofs.lemmas.List.{flat_map_more, take_all, drop-drop, length-take}
+use Rattle.std.proofs.lemmas.List.{flat_map_more, take_all, drop-drop, length-take, length-append}
 use Rattle.packet.specs.declared.datagram.Direction.{Direction}
 use Rattle.packet.specs.Pieces.{piece, piece_count}
 use Rattle.packet.specs.Fragments.{fragment_bytes}
 use Rattle.packet.specs.Datagrams.{Parcel, same_direction, datagram_around, datagram_bytes, read_datagram}
-use Rattle.packet.specs.Sendings.{parcel, datagrams_of}
+use Rattle.packet.specs.Sendings.{parcel, datagrams_of, sending_bytes}
 use Rattle.packet.specs.Layouts.{SendingStands}
 use Rattle.packet.proofs.Sound.{sound_within, piece_sound}
 use Rattle.packet.proofs.Layouts.{datagram_back}
@@ -72,3 +72,24 @@ sending_stands d sends first s bs other short =
       λ k h. ap (read_datagram sends) (nth k h) ∙ datagram_read d first s bs sends k other short h,
       pieces_join s bs,
     )
+
+module _ (d : Direction) (first s : ℕ) (bs : List ℕ) where
+  -- the datagrams a, .., a + n - 1, back to back
+  abbrev stretch : ℕ → ℕ → List ℕ
+  stretch a n = flat_map (λ x. x) (map (λ i. datagram_bytes (parcel d first s bs i)) (range_with_len a n))
+
+  stretch_length : (a n : ℕ) → length (stretch a n) ≡ 22 * n + length (flat_map (λ k. (piece s bs k).contents) (range_with_len a n))
+  stretch_length a zero = refl
+  stretch_length a (suc n) =
+      let q : List ℕ = datagram_bytes (parcel d first s bs a) in
+      let c : List ℕ = (piece s bs a).contents in
+      length-append q (stretch (a + 1) n)
+      ∙ ap (λ m. m + length (stretch (a + 1) n)) (datagram_length (parcel d first s bs a))
+      ∙ ap (λ m. 22 + length c + m) (stretch_length (a + 1) n)
+      ∙ omega arith
+      ∙ ap (λ m. 22 * suc n + m) (sym (length-append c (flat_map (λ k. (piece s bs k).contents) (range_with_len (a + 1) n))))
+
+  -- a sending's length: 22 bytes more a piece
+  pub sending_length : length (sending_bytes d first s bs) ≡ 22 * piece_count bs + length bs
+  unfolding datagrams_of
+  sending_length = stretch_length 0 (piece_count bs) ∙ ap (λ z. 22 * piece_count bs + length z) (pieces_join s bs)

@@ -17,14 +17,21 @@ impl fmt::Display for Ticked {
     ghost output = { λ t. Some (tick_told t).word };
 
     fn fmt<W: fmt::Write>(&self, f: &mut fmt::Formatter<W>) -> fmt::Result {
-        match self {
-            Ticked::Idle => f.write_str("idle"),
-            Ticked::Sent { .. } => f.write_str("sent"),
-        }
+        f.write_str(Ticked::word(*self))
     }
 }
 
 impl Ticked {
+    /// The word for it.
+    pub fn word(self) -> &'static str
+        ensures { result.now ≡ (tick_told self).word }
+    {
+        match self {
+            Ticked::Idle => "idle",
+            Ticked::Sent { .. } => "sent",
+        }
+    }
+
     /// The number beside the word: how many datagrams were sent.
     pub fn n(self) -> usize
         ensures { result ≡ (tick_told self).n }
@@ -50,17 +57,24 @@ impl fmt::Display for Taken {
     ghost output = { λ t. Some (take_told t).word };
 
     fn fmt<W: fmt::Write>(&self, f: &mut fmt::Formatter<W>) -> fmt::Result {
-        match self {
-            Taken::Part { .. } => f.write_str("part"),
-            Taken::Shown { .. } => f.write_str("shown"),
-            Taken::Filled { .. } => f.write_str("filled"),
-            Taken::Again { .. } => f.write_str("again"),
-            Taken::Baseless { .. } => f.write_str("baseless"),
-        }
+        f.write_str(Taken::word(*self))
     }
 }
 
 impl Taken {
+    /// The word for it.
+    pub fn word(self) -> &'static str
+        ensures { result.now ≡ (take_told self).word }
+    {
+        match self {
+            Taken::Part { .. } => "part",
+            Taken::Shown { .. } => "shown",
+            Taken::Filled { .. } => "filled",
+            Taken::Again { .. } => "again",
+            Taken::Baseless { .. } => "baseless",
+        }
+    }
+
     /// The number beside the word: the fragment's, or the instruction's new one.
     pub fn n(self) -> u32
         ensures { result ≡ (take_told self).n }

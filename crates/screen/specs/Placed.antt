@@ -32,6 +32,10 @@ put_put xs i ys zs j e h =
     ∙ ap (λ r. take i xs ++ r) (sym (append_assoc ys zs (drop (j + length zs) xs)))
     ∙ ap (λ k. take i xs ++ ((ys ++ zs) ++ drop k xs)) (omega (arith, length-append ys zs))
 
+-- nothing put
+pub put_none : (xs : List ℕ) (i : ℕ) → put xs i [] ≡ xs
+put_none xs i = ap (λ k. take i xs ++ drop k xs) (omega arith) ∙ take-append-drop i xs
+
 -- all elements replaced
 pub put_whole : (xs ys : List ℕ) → length xs ≡ length ys → put xs 0 ys ≡ ys
 put_whole xs ys h = ap (λ r. ys ++ r) (drop_all (0 + length ys) xs (omega arith)) ∙ append-nil ys

@@ -1,5 +1,5 @@
 -- Laws of runs: where one begins, how long it is, and what stands behind it.
-use Rattle.std.specs.Prelude.{◌≡◌, ℕ, zero, suc, ◌+◌, ◌-◌, ◌*◌, ◌%◌, ◌<◌, ◌≤◌, Bool, true, false, not, ◌&&◌, List, [], ◌∷◌, ◌++◌, length, take, drop, ◌==◌, ◌≢◌}
+use Rattle.std.specs.Prelude.{◌≡◌, ℕ, zero, suc, ◌+◌, ◌-◌, ◌*◌, ◌%◌, ◌<◌, ◌≤◌, Bool, true, false, not, ◌&&◌, List, [], ◌∷◌, ◌++◌, length, take, drop, ◌==◌, ◌≢◌, slice_index}
 use Rattle.std.specs.List.{concat, sum_by}
 use Rattle.std.proofs.Math.Path.{refl, sym, ap}
 use Rattle.std.proofs.Common.{◌∙◌, append_assoc, ⊎_elim}
@@ -10,6 +10,12 @@ use Rattle.std.proofs.lemmas.Bool.{cond-true, cond-false, cond_both, cases_Bool,
 use Rattle.screen.specs.Runs.{differ, begins, differing, run_length, run_bytes, run_at, runs_from, runs_listed}
 
 module _ (b t : List ℕ) where
+  pub differ_yes : (i : ℕ) → (slice_index b i ≢ slice_index t i) → differ b t i ≡ true
+  differ_yes i h = not_from_false (slice_index b i == slice_index t i) (ne_eqb _ _ h)
+
+  pub differ_no : (i : ℕ) → slice_index b i ≡ slice_index t i → differ b t i ≡ false
+  differ_no i h = not_from_true (slice_index b i == slice_index t i) (eq-eqb _ _ h)
+
   -- a stretch of differing cells, by cases of its first cell
   pub differing_none : (i n : ℕ) → differ b t i ≡ false → differing b t i n ≡ 0
   differing_none i zero e = refl
@@ -18,6 +24,10 @@ module _ (b t : List ℕ) where
   pub differing_some : (i n : ℕ) → differ b t i ≡ true → 0 < n → differing b t i n ≡ 1 + differing b t (i + 1) (n - 1)
   differing_some i zero e h = absurd (omega arith)
   differing_some i (suc n) e h = cond-true (differ b t i) _ _ e ∙ ap (λ m. 1 + differing b t (i + 1) m) (omega arith)
+
+  -- a stretch of none begins with equal cells
+  pub differing_zero : (i n : ℕ) → 0 < n → differing b t i n ≡ 0 → differ b t i ≡ false
+  differing_zero i n h e = ⊎_elim (λ d. absurd (omega (arith, differing_some i n d h))) (λ d. d) (cases_Bool (differ b t i))
 
   pub differing_le : (i n : ℕ) → differing b t i n ≤ n
   differing_le i zero = omega arith

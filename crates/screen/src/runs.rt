@@ -22,10 +22,11 @@ pub(crate) fn is_character(x: u8) -> bool
     matches!(x, b' '..=b'~')
 }
 
+/// Whether all cells hold characters. It looks at each, which takes them many at a time; an early end would take them one by one.
 pub(crate) fn all_characters(cells: &[u8]) -> bool
     ensures { result ≡ all_characters cells.now }
 {
-    cells.iter().all(|x| is_character(*x))
+    cells.iter().fold(true, |all, x| all & is_character(*x))
 }
 
 /// A run of cells in one row: the position of the first, and the characters.

@@ -4,7 +4,8 @@ use Rattle.std.proofs.lemmas.List.Folds.{length-flat_map-take}
 use borrow.Rule.Slice.PartMut.{put_mid}
 use Rattle.journal.specs.declared.entry.Entry.TheVariants.{Key}
 use Rattle.journal.specs.Entries.{entries_bytes, entry_bytes}
-use Rattle.journal.proofs.Writing.{behind, bytes_more}
+use Rattle.journal.specs.Bytes.{bytes_more}
+use Rattle.journal.proofs.Writing.{behind}
 use Rattle.journal.proofs.kind.put_all.Goals as goal
 
 pub put-requires : goal.put-requires
