@@ -23,6 +23,7 @@ impl fmt::Display for Ticked {
 
 impl Ticked {
     /// The word for it.
+    // Stays: `Display` may fail and needs a writer, and this gives the word of any answer without either.
     pub fn word(self) -> &'static str
         ensures { result.now ≡ (tick_told self).word }
     {
@@ -63,6 +64,7 @@ impl fmt::Display for Taken {
 
 impl Taken {
     /// The word for it.
+    // Stays: `Display` may fail and needs a writer, and this gives the word of any answer without either.
     pub fn word(self) -> &'static str
         ensures { result.now ≡ (take_told self).word }
     {
